@@ -1,0 +1,9 @@
+pub mod Choice
+pub mod All
+pub mod First
+pub mod Sum
+pub mod Fill
+pub mod Splice
+pub mod Copy
+pub mod Cases
+pub mod Ascii

@@ -1,0 +1,129 @@
+-- A part of a list, and a list with one part replaced: what a store into bytes does, and what a slice lent from the middle
+-- of another is. Assumes nothing.
+use mathlib.Core.Path.{_≡_, refl, sym, _∙_, ap}
+use mathlib.Core.List.{List, [], _∷_, _++_, append-assoc}
+use Prim.Native.Nat.{ℕ, zero, suc, _+_, _-_, _<_, _≤_}
+use native.Mathlib.Nat.{add-zero, sub-zero, zero-sub, suc-sub-suc, add-sub-cancel-left}
+use native.Mathlib.Omega.{arith}
+use lib.ListN.{length, getD, take, drop, set, length-append, length-drop, take-append-drop, List·getD-append}
+use lib.Seq.{length-take-le, take-all, take-at, take-take, take-length, take-append-le, take-nil, drop-drop, drop-at, drop-append-le, drop-append-add, getD-take, getD-drop, sets, sets-eq}
+
+module _ {A : Type 0} where
+  -- the n elements from index at on
+  unfoldable pub part : List A → ℕ → ℕ → List A
+  part l at n = take n (drop at l)
+
+  -- d, with the elements from index at on replaced by s
+  unfoldable pub splice : List A → ℕ → List A → List A
+  splice d at s = take at d ++ (s ++ drop (at + length s) d)
+
+  -- ---- a part
+
+  drop-take : (b n : ℕ) (l : List A) → drop b (take n l) ≡ take (n - b) (drop b l)
+  drop-take zero n l = rw sub-zero
+  drop-take (suc b) zero l = rw zero-sub refl
+  drop-take (suc b) (suc n) [] = sym (take-nil (suc n - suc b))
+  drop-take (suc b) (suc n) (x ∷ l) = rw suc-sub-suc (drop-take b n l)
+
+  pub length-part : (l : List A) (at n : ℕ) → at + n ≤ length l → length (part l at n) ≡ n
+  unfolding part
+  length-part l at n h = length-take-le n (drop at l) (rw length-drop (omega arith))
+
+  pub getD-part : (l : List A) (at n i : ℕ) (z : A) → i < n → getD (part l at n) i z ≡ getD l (at + i) z
+  unfolding part
+  getD-part l at n i z h = getD-take n (drop at l) i z h ∙ getD-drop at l i z
+
+  pub part-all : (l : List A) → part l 0 (length l) ≡ l
+  unfolding part
+  part-all l = take-length l
+
+  pub part-none : (l : List A) (at : ℕ) → part l at 0 ≡ []
+  unfolding part
+  part-none l at = refl
+
+  -- a part of a part
+  pub part-part : (l : List A) (a n b m : ℕ) → b + m ≤ n → part (part l a n) b m ≡ part l (a + b) m
+  unfolding part
+  part-part l a n b m h =
+      ap (take m) (drop-take b n (drop a l))
+      ∙ take-take m (n - b) (drop b (drop a l)) (omega arith)
+      ∙ ap (take m) (drop-drop b a l)
+
+  -- ---- a list with a part replaced
+
+  pub length-splice : (d : List A) (at : ℕ) (s : List A) → at + length s ≤ length d → length (splice d at s) ≡ length d
+  unfolding splice
+  length-splice d at s h =
+      length-append (take at d) (s ++ drop (at + length s) d)
+      ∙ rw (length-append s (drop (at + length s) d), length-drop, length-take-le at d (omega arith)) (omega arith)
+
+  pub part-splice : (d : List A) (at : ℕ) (s : List A) → at ≤ length d → part (splice d at s) at (length s) ≡ s
+  unfolding part splice
+  part-splice d at s h =
+      ap (take (length s)) (drop-at (take at d) (s ++ drop (at + length s) d) at (length-take-le at d h))
+      ∙ take-at s (drop (at + length s) d) (length s) refl
+
+  pub get-in : (d : List A) (at : ℕ) (s : List A) (i : ℕ) (z : A) → at ≤ length d → i < length s → getD (splice d at s) (at + i) z ≡ getD s i z
+  get-in d at s i z h k = sym (getD-part (splice d at s) at (length s) i z k) ∙ ap (λ (l : List A). getD l i z) (part-splice d at s h)
+
+  pub get-below : (d : List A) (at : ℕ) (s : List A) (i : ℕ) (z : A) → at ≤ length d → i < at → getD (splice d at s) i z ≡ getD d i z
+  unfolding splice
+  get-below d at s i z h k =
+      List·getD-append (take at d) (s ++ drop (at + length s) d) z i (rw (length-take-le at d h) k) ∙ getD-take at d i z k
+
+  -- what stands behind a splice
+  drop-splice : (d : List A) (at : ℕ) (s : List A) (i : ℕ) → at ≤ length d → at + length s ≤ i → drop i (splice d at s) ≡ drop i d
+  unfolding splice
+  drop-splice d at s i h k =
+      let e : length (take at d ++ s) ≡ at + length s = length-append (take at d) s ∙ rw (length-take-le at d h) in
+      let j : length (take at d ++ s) + (i - (at + length s)) ≡ i = rw e (omega arith) in
+      let r : at + length s + (i - (at + length s)) ≡ i = omega arith in
+      ap (drop i) (sym (append-assoc (take at d) s (drop (at + length s) d)))
+      ∙ ap (λ (n : ℕ). drop n ((take at d ++ s) ++ drop (at + length s) d)) (sym j)
+      ∙ drop-append-add (take at d ++ s) (drop (at + length s) d) (i - (at + length s))
+      ∙ drop-drop (i - (at + length s)) (at + length s) d
+      ∙ ap (λ (n : ℕ). drop n d) r
+
+  at-first : (l : List A) (i : ℕ) (z : A) → getD l i z ≡ getD (drop i l) 0 z
+  at-first l i z = sym (getD-drop i l 0 z ∙ rw add-zero)
+
+  pub get-above : (d : List A) (at : ℕ) (s : List A) (i : ℕ) (z : A) → at ≤ length d → at + length s ≤ i → getD (splice d at s) i z ≡ getD d i z
+  unfolding splice
+  get-above d at s i z h k =
+      at-first (splice d at s) i z ∙ ap (λ (l : List A). getD l 0 z) (drop-splice d at s i h k) ∙ sym (at-first d i z)
+
+  -- a part as the end of what is taken
+  part-front : (l : List A) (i n : ℕ) → take n (drop i l) ≡ drop i (take (i + n) l)
+  part-front l i n = sym (drop-take i (i + n) l ∙ rw add-sub-cancel-left)
+
+  -- a part that ends before the splice, and one that begins after it
+  pub part-below : (d : List A) (at : ℕ) (s : List A) (i n : ℕ) → at ≤ length d → i + n ≤ at → part (splice d at s) i n ≡ part d i n
+  unfolding part splice
+  part-below d at s i n h k =
+      part-front (splice d at s) i n
+      ∙ ap (drop i) (take-append-le (i + n) (take at d) (s ++ drop (at + length s) d) (rw (length-take-le at d h) k) ∙ take-take (i + n) at d k)
+      ∙ sym (part-front d i n)
+
+  pub part-above : (d : List A) (at : ℕ) (s : List A) (i n : ℕ) → at ≤ length d → at + length s ≤ i → part (splice d at s) i n ≡ part d i n
+  unfolding part splice
+  part-above d at s i n h k = ap (take n) (drop-splice d at s i h k)
+
+  -- putting a part back where it was
+  pub splice-part : (d : List A) (at n : ℕ) → at + n ≤ length d → splice d at (part d at n) ≡ d
+  unfolding part splice
+  splice-part d at n h =
+      let e : length (take n (drop at d)) ≡ n = length-take-le n (drop at d) (rw length-drop (omega arith)) in
+      rw e
+      (ap (λ (l : List A). take at d ++ (take n (drop at d) ++ l)) (sym (drop-drop n at d))
+      ∙ ap (λ (l : List A). take at d ++ l) (take-append-drop n (drop at d))
+      ∙ take-append-drop at d)
+
+  -- a slice lent as `&mut m[at..at + n]` and given back as s
+  pub lent-back : (m : List A) (at n : ℕ) (s : List A) → length s ≡ n → take at m ++ (s ++ drop n (drop at m)) ≡ splice m at s
+  unfolding splice
+  lent-back m at n s e = rw (drop-drop, ← e)
+
+  -- what a run of stores, `d[at] = a; d[at + 1] = b; ..`, leaves
+  pub stores : (d : List A) (at : ℕ) (s : List A) → at + length s ≤ length d → sets d at s ≡ splice d at s
+  unfolding splice
+  stores d at s h = sets-eq s d at h ∙ append-assoc (take at d) s (drop (at + length s) d)

@@ -1,0 +1,9 @@
+-- `level::text::meaning` meets its contract. Assumes nothing.
+use borrow.Author.Needs.{needs}
+use Rattle.level.proofs.text.meaning.Statement.{statement}
+use Rattle.level.proofs.text.meaning.Tie as tie
+
+pub meaning-spec : {M : Type 1} → statement M
+meaning-spec =
+    tie.close
+    (tie.spec (λ c. search needs) (λ c. search needs) (λ c. search needs) (λ c. cc) (λ c. cc) (λ c. cc))

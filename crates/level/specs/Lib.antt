@@ -1,0 +1,4 @@
+pub mod Text
+pub mod Need
+pub mod Walk
+pub mod Starred

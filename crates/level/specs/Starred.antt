@@ -1,0 +1,33 @@
+-- The starred texts and needs of document 01 ("Starred cases"), by computation on the definitions. Assumes nothing.
+use mathlib.Core.Path.{refl}
+use mathlib.Core.List.{List, [], _∷_}
+use Prim.Native.Nat.{ℕ}
+use Prim.Native.String.{String}
+use Rattle.laws.specs.Ascii.{ascii}
+use Rattle.laws.specs.Splice.{part}
+use Rattle.laws.specs.Cases.{Case, Holds, All}
+use Rattle.wire.specs.Same.{sameBytes}
+use Rattle.level.specs.Text.{textLevel, entries, begins, ours, exact}
+use Rattle.level.specs.Need.{needOf, among}
+
+-- a text with its call number and level, and a command with the level it needs
+abbrev pub text : String → ℕ → ℕ → Case
+text s call level = record { gives = textLevel (ascii s) .call ∷ textLevel (ascii s) .level .0 ∷ []; said = call ∷ level ∷ [] }
+
+abbrev pub need : ℕ → ℕ → Case
+need command level = record { gives = needOf command .0 ∷ []; said = level ∷ [] }
+
+abbrev pub cases : List Case
+cases =
+    text "" 0 2
+    ∷ text "Something=here;CSMI=Full;" 0 3
+    ∷ text "CSMI=full;" 101 0
+    ∷ text "CSMI=Full" 101 0
+    ∷ need 0xe8 2
+    ∷ need 0xa0 3
+    ∷ need 0x20 1
+    ∷ []
+
+pub starred : All Holds cases
+unfolding textLevel entries begins ours exact needOf among sameBytes part ascii
+starred = (refl, (refl, (refl, (refl, (refl, (refl, (refl, tt)))))))

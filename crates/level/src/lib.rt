@@ -1,0 +1,73 @@
+// The level that a driver is set to, from the text that sets it, and the level that a command needs (document 01, "Level").
+mod need;
+mod text;
+
+use need::listed;
+pub use text::of_text;
+ghost use mathlib.Core.Path.{_≡_};
+ghost use Rattle.level.specs.Text.{exact};
+ghost use Rattle.level.specs.Need.{needOf};
+
+// How much a console may do: None 0, Restricted 1, Limited 2, Full 3.
+pub struct Level(pub u8);
+
+// What the entries of a text say of the level.
+pub enum Setting {
+    // none of them begins with CSMI=
+    Absent,
+    // one does, and it is one of the four
+    Given(Level),
+    // one does and is none of the four, or more than one does
+    Bad,
+}
+
+// The level of a text where call is 0.
+pub struct TextLevel {
+    pub call: u32,
+    pub level: Level,
+}
+
+impl Level {
+    pub const NONE: Level = Level(0);
+
+    pub const RESTRICTED: Level = Level(1);
+
+    pub const LIMITED: Level = Level(2);
+
+    pub const FULL: Level = Level(3);
+
+    // The level that an entry beginning with CSMI= gives.
+    pub fn from_entry(entry: &[u8]) -> Setting
+        ensures { λ r. ⌜ r ≡ exact (now (entry .entry)) ⌝ }
+    {
+        if wire::same(entry, b"CSMI=None;") {
+            return Setting::Given(Level::NONE);
+        }
+        if wire::same(entry, b"CSMI=Restricted;") {
+            return Setting::Given(Level::RESTRICTED);
+        }
+        if wire::same(entry, b"CSMI=Limited;") {
+            return Setting::Given(Level::LIMITED);
+        }
+        if wire::same(entry, b"CSMI=Full;") {
+            return Setting::Given(Level::FULL);
+        }
+        Setting::Bad
+    }
+
+    // The lowest level that may send a command, by the command's code.
+    pub fn from_need(command: u8) -> Level
+        ensures { λ r. ⌜ r ≡ needOf command ⌝ }
+    {
+        if listed(
+            command,
+            b"\x00\x20\x24\x25\x26\x27\x29\x2f\x40\x42\x70\x90\xa1\xb0\xc4\xc7\xc8\xe4\xe5\xe7\xea\xec\xf8",
+        ) {
+            return Level::RESTRICTED;
+        }
+        if listed(command, b"\x92\xe8") {
+            return Level::LIMITED;
+        }
+        Level::FULL
+    }
+}

@@ -1,0 +1,18 @@
+-- `level_cases::sixteen` meets its contract. Assumes nothing.
+use borrow.Author.Needs.{needs}
+use Prim.Native.Nat.{_-_, _≤_}
+use Rattle.level_cases.proofs.sixteen.Statement.{statement}
+use Rattle.level_cases.proofs.sixteen.Tie as tie
+
+abbrev Inv-loop : tie.InvT-loop
+Inv-loop from i₀ t3 t4 i = i ≤ 16
+
+abbrev μ-loop : tie.MeasureT-loop
+μ-loop from i₀ t3 t4 i = 16 - i
+
+pub sixteen-spec : {M : Type 1} → statement M
+sixteen-spec =
+    tie.close
+    (tie.spec Inv-loop μ-loop (λ c κs. search needs) (λ c. search needs) (λ c. search needs) (λ c κs. search needs)
+    (λ c. search needs) (λ c κs. search needs) (λ c. search needs) (λ c κs. search needs) (λ c. search needs)
+    (λ c. search needs) (λ c. search needs) (λ c. search needs) (λ c κs. search needs) (λ c. search needs))

@@ -1,0 +1,11 @@
+-- `wire::same` meets its contract. Assumes nothing.
+use Rattle.wire.specs.Same.{same-whole, same-longer}
+use borrow.Author.Needs.{needs}
+use Rattle.wire.proofs.same.Statement.{statement}
+use Rattle.wire.proofs.same.Tie as tie
+
+pub same-spec : {M : Type 1} → statement M
+same-spec =
+    tie.close
+    (tie.spec (λ c κs. search needs) (λ c. search (same-whole, same-longer, needs))
+    (λ c. search (same-whole, same-longer, needs)))
