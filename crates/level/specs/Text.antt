@@ -6,6 +6,7 @@ use lib.Dec.{eqb, ltb}
 use lib.ListN.{length}
 use Rattle.laws.specs.Ascii.{ascii}
 use Rattle.laws.specs.Splice.{part}
+use Rattle.codes.specs.Codes.{badText}
 use Rattle.wire.specs.Same.{sameBytes}
 use Rattle.level.specs.declared.Level.{Level}
 use Rattle.level.specs.declared.Setting.{Setting}
@@ -66,7 +67,7 @@ settingOf (e ∷ f ∷ es) = Bad
 abbrev pub meant : Setting → TextLevel
 meant Absent = record { call = 0; level = limited }
 meant (Given l) = record { call = 0; level = l }
-meant Bad = record { call = 101; level = none }
+meant Bad = record { call = badText; level = none }
 
 -- "The text (0 to 1,024 bytes)"; "101 text, or text over 1,024 bytes"
 unfoldable pub textLevel : List ℕ → TextLevel

@@ -91,7 +91,7 @@ fn meaning(s: Setting) -> TextLevel
         },
         Setting::Given(l) => TextLevel { call: 0, level: l },
         Setting::Bad => TextLevel {
-            call: 101,
+            call: codes::BAD_TEXT,
             level: Level::NONE,
         },
     }

@@ -1,0 +1,22 @@
+-- `adapter::rules::phys_hold` meets its contract. Assumes nothing.
+use mathlib.Core.Path.{_≡_}
+use mathlib.Core.Bool.{true}
+use Prim.Native.Nat.{ℕ, _-_, _≤_}
+use lib.ListN.{getD}
+use Rattle.laws.specs.All.{allTo, all-loop}
+use Rattle.phy.specs.Block.{noPhy}
+use Rattle.fields.specs.Rules.{fieldsHold}
+use Rattle.adapter.proofs.rules.phys_hold.Statement.{statement}
+use Rattle.adapter.proofs.rules.phys_hold.Tie as tie
+
+abbrev Inv-loop : tie.InvT-loop
+Inv-loop phys p n k₀ k = (k ≤ n) × (allTo (λ (i : ℕ). fieldsHold (getD phys i noPhy) (record { 0 = i }) p) k ≡ true)
+
+abbrev μ-loop : tie.MeasureT-loop
+μ-loop phys p n k₀ k = n - k
+
+pub phys-hold-spec : {M : Type 1} → statement M
+phys-hold-spec =
+    tie.close
+    (tie.spec Inv-loop μ-loop (λ c. search all-loop) (λ c κs. search all-loop) (λ c. search all-loop)
+    (λ c. search all-loop) (λ c. search all-loop) (λ c. search all-loop) (λ c. search all-loop))

@@ -1,0 +1,53 @@
+-- The tables and counters of an adapter, and the rules that the file and the state share (document 01, "Adapter file" and
+-- "From the state"). Assumes nothing.
+use mathlib.Core.Bool.{Bool, _&&_}
+use mathlib.Core.List.{List}
+use Prim.Native.Nat.{ℕ, _+_, _-_}
+use lib.Dec.{leb}
+use lib.ListN.{getD, set, replicate}
+use Rattle.laws.specs.All.{allTo}
+use Rattle.phy.specs.declared.Phy.{Phy}
+use Rattle.phy.specs.Block.{noPhy, zeroPhy}
+use Rattle.fields.specs.Rules.{fieldsHold, phyZero}
+use Rattle.rows.specs.Row.{zeroRow, zeroFrom}
+use Rattle.adapter.specs.declared.Adapter.{Adapter}
+
+-- phy n of an adapter
+abbrev pub phyIn : Adapter → ℕ → Phy
+phyIn ad n = getD (ad .phys) n noPhy
+
+-- the same adapter with another phy n
+unfoldable pub withPhy : Adapter → ℕ → Phy → Adapter
+withPhy ad n phy =
+    record {
+      «phy_count» = ad .«phy_count»;
+      «row_count» = ad .«row_count»;
+      info = ad .info;
+      phys = set (ad .phys) n phy;
+      rows = ad .rows;
+    }
+
+-- "A refused opening returns the zero state, p = 0"
+unfoldable pub zeroAdapter : Adapter
+zeroAdapter =
+    record {
+      «phy_count» = 0;
+      «row_count» = 0;
+      info = replicate 174 0;
+      phys = replicate 32 zeroPhy;
+      rows = replicate 64 zeroRow;
+    }
+
+-- "the phy count p (1–32)", "the row count a (0–64)"
+unfoldable pub countsHold : ℕ → ℕ → Bool
+countsHold p a = leb 1 p && leb p 32 && leb a 64
+
+-- the field rules, of each phy below p (but for the negotiated rate, which the link rule gives)
+unfoldable pub fieldsAll : Adapter → Bool
+fieldsAll ad = allTo (λ (n : ℕ). fieldsHold (phyIn ad n) (record { 0 = n }) (ad .«phy_count»)) (ad .«phy_count»)
+
+-- "zero past p and a"
+unfoldable pub zeroPast : Adapter → Bool
+zeroPast ad =
+    allTo (λ (i : ℕ). phyZero (phyIn ad (ad .«phy_count» + i))) (32 - ad .«phy_count»)
+    && zeroFrom (ad .rows) (ad .«row_count»)

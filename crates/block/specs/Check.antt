@@ -1,0 +1,56 @@
+-- Blocks and their checks (document 01, "Adapter file"), and what upper crates cite of them. Assumes nothing.
+use mathlib.Core.Path.{_≡_}
+use mathlib.Core.Bool.{Bool, true}
+use mathlib.Core.List.{List}
+use Prim.Native.Nat.{ℕ, _+_, _*_, _%_, _<_, _≤_}
+use native.Mathlib.Omega.{arith}
+use lib.Dec.{eqb}
+use lib.ListN.{length, getD}
+use Rattle.laws.specs.All.{allTo, all-at, all-by}
+use Rattle.laws.specs.Splice.{part, length-part, getD-part, part-part}
+use Rattle.laws.specs.Sum.{sumTo}
+use Rattle.wire.specs.Number.{number}
+
+-- "Blocks of 512 bytes, numbered from 0"
+unfoldable pub blockAt : List ℕ → ℕ → List ℕ
+blockAt file k = part file (512 * k) 512
+
+-- a block's little-endian words, counted from 0
+unfoldable pub word : List ℕ → ℕ → ℕ
+word block i = number (part block (4 * i) 4)
+
+-- "the sum of the 127 little-endian words before it, plus the block's number, plus 1, modulo 4,294,967,296"
+unfoldable pub checkOf : List ℕ → ℕ → ℕ
+checkOf block k = (sumTo (word block) 127 + k + 1) % 4294967296
+
+-- "the last four bytes are its check"
+unfoldable pub sound : List ℕ → ℕ → Bool
+sound block k = eqb (number (part block 508 4)) (checkOf block k)
+
+-- each of the first n blocks of a file has its check
+unfoldable pub soundTo : List ℕ → ℕ → Bool
+soundTo file n = allTo (λ k. sound (blockAt file k) k) n
+
+-- ---- what stands in a block is what stands in the file
+
+pub length-block : (file : List ℕ) (k : ℕ) → 512 * k + 512 ≤ length file → length (blockAt file k) ≡ 512
+unfolding blockAt
+length-block file k h = length-part file (512 * k) 512 h
+
+pub part-block : (file : List ℕ) (k at n : ℕ) → at + n ≤ 512 → part (blockAt file k) at n ≡ part file (512 * k + at) n
+unfolding blockAt
+part-block file k at n h = part-part file (512 * k) 512 at n h
+
+pub getD-block : (file : List ℕ) (k i : ℕ) → i < 512 → getD (blockAt file k) i 0 ≡ getD file (512 * k + i) 0
+unfolding blockAt
+getD-block file k i h = getD-part file (512 * k) 512 i 0 h
+
+-- ---- what the checks of n blocks say of each block, and of fewer
+
+pub sound-block : (file : List ℕ) (n k : ℕ) → soundTo file n ≡ true → k < n → sound (blockAt file k) k ≡ true
+unfolding soundTo
+sound-block file n k p h = all-at (λ (i : ℕ). sound (blockAt file i) i) n k p h
+
+pub sound-fewer : (file : List ℕ) (n m : ℕ) → soundTo file n ≡ true → m ≤ n → soundTo file m ≡ true
+unfolding soundTo
+sound-fewer file n m p h = all-by (λ (i : ℕ). sound (blockAt file i) i) m (λ i l. sound-block file n i p (omega arith))

@@ -1,0 +1,129 @@
+-- The numbers of CSMI's section 10, each said once, under section 10's names: control codes and return codes. Where document
+-- 01 prints another number, section 10 decides, as document 01 says. The call's own numbers are document 01's.
+-- Assumes nothing.
+use Prim.Native.Nat.{ℕ}
+
+-- control codes
+
+abbrev pub getDriverInfo : ℕ
+getDriverInfo = 1
+
+abbrev pub getPhyInfo : ℕ
+getPhyInfo = 20
+
+abbrev pub setPhyInfo : ℕ
+setPhyInfo = 21
+
+abbrev pub getLinkErrors : ℕ
+getLinkErrors = 22
+
+abbrev pub stpPassthru : ℕ
+stpPassthru = 25
+
+abbrev pub getSataSignature : ℕ
+getSataSignature = 26
+
+abbrev pub getScsiAddress : ℕ
+getScsiAddress = 27
+
+abbrev pub getDeviceAddress : ℕ
+getDeviceAddress = 28
+
+-- return codes ("In the return code", document 01)
+
+abbrev pub success : ℕ
+success = 0
+
+-- unknown code or wrong signature
+abbrev pub badControlCode : ℕ
+badControlCode = 2
+
+-- HeaderLength, Length, reset, negotiated, class, connection rate, FIS type or uDataLength
+abbrev pub invalidParameter : ℕ
+invalidParameter = 3
+
+-- denied
+abbrev pub writeAttempted : ℕ
+writeAttempted = 4
+
+-- code 21 done; "granted" counts this and success
+abbrev pub phyInfoChanged : ℕ
+phyInfoChanged = success
+
+-- fixed
+abbrev pub phyInfoNotChangeable : ℕ
+phyInfoNotChangeable = 2000
+
+-- programmed byte or range
+abbrev pub linkRateOutOfRange : ℕ
+linkRateOutOfRange = 2001
+
+-- no such phy
+abbrev pub phyDoesNotExist : ℕ
+phyDoesNotExist = 2002
+
+-- phy not of that port
+abbrev pub phyDoesNotMatchPort : ℕ
+phyDoesNotMatchPort = 2003
+
+-- phy and port both FFh
+abbrev pub selectPhyOrPort : ℕ
+selectPhyOrPort = 2005
+
+-- no such port
+abbrev pub portDoesNotExist : ℕ
+portDoesNotExist = 2006
+
+-- not connected
+abbrev pub connectionFailed : ℕ
+connectionFailed = 2008
+
+-- no SATA
+abbrev pub noSataDevice : ℕ
+noSataDevice = 2009
+
+-- no signature
+abbrev pub noSataSignature : ℕ
+noSataSignature = 2010
+
+-- no row for code 27
+abbrev pub noScsiAddress : ℕ
+noScsiAddress = 2013
+
+-- no row for code 28
+abbrev pub noDeviceAddress : ℕ
+noDeviceAddress = 2014
+
+-- "The call's own number"
+
+-- buffer under 28 bytes
+abbrev pub shortBuffer : ℕ
+shortBuffer = 100
+
+-- text, or text over 1,024 bytes
+abbrev pub badText : ℕ
+badText = 101
+
+-- file length
+abbrev pub fileLength : ℕ
+fileLength = 102
+
+-- block check
+abbrev pub blockCheck : ℕ
+blockCheck = 103
+
+-- count or field
+abbrev pub badField : ℕ
+badField = 104
+
+-- shared row
+abbrev pub sharedRow : ℕ
+sharedRow = 105
+
+-- medium length
+abbrev pub mediumLength : ℕ
+mediumLength = 106
+
+-- the state breaks a rule
+abbrev pub badState : ℕ
+badState = 107

@@ -1,0 +1,10 @@
+-- `disk::read` meets its contract. Assumes nothing.
+use borrow.Author.Needs.{needs}
+use Rattle.disk.proofs.read.Statement.{statement}
+use Rattle.disk.proofs.read.Tie as tie
+
+pub read-spec : {M : Type 1} → statement M
+read-spec =
+    tie.close
+    (tie.spec (λ c. search needs) (λ c. search needs) (λ c. search needs) (λ c. search needs) (λ c κs. search needs)
+    (λ c κs. search needs) (λ c. search needs) (λ c. cc))

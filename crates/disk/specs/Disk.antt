@@ -1,0 +1,138 @@
+-- The disk of a phy and what a command does to it (document 01, "Disk"). `disk` is its 8,192 bytes, and `body` the bytes of a
+-- code 25 request behind its header. Assumes nothing.
+use mathlib.Core.Bool.{Bool, cond}
+use mathlib.Core.Path.{_≡_}
+use mathlib.Core.List.{List, [], _∷_, _++_}
+use Prim.Native.Nat.{ℕ, _+_, _*_, _/_, _%_, _≤_}
+use lib.Dec.{eqb, ltb}
+use lib.ListN.{length, getD, replicate}
+use Rattle.laws.specs.Splice.{part, splice}
+use Rattle.codes.specs.Codes.{invalidParameter}
+use Rattle.wire.specs.Number.{number, bytes}
+use Rattle.disk.specs.declared.Request.{Request}
+use Rattle.disk.specs.declared.Answer.{Answer}
+
+-- ---- what the request asks
+
+-- byte i of the command FIS
+abbrev pub fis : List ℕ → ℕ → ℕ
+fis body i = getD body (16 + i) 0
+
+-- the command's code, byte 2 of the command FIS
+abbrev pub command : List ℕ → ℕ
+command body = fis body 2
+
+-- "Bit 6 of byte 7" is set
+abbrev pub addressed : List ℕ → Bool
+addressed body = eqb (fis body 7 / 64 % 2) 1
+
+-- "LBA from FIS bytes 4 (lowest), 5, 6 and the low four bits of 7"
+abbrev pub lba : List ℕ → ℕ
+lba body = fis body 4 + 256 * (fis body 5 + 256 * (fis body 6 + 256 * (fis body 7 % 16)))
+
+-- "count byte 12, where 0 means 256"
+unfoldable pub countOf : ℕ → ℕ
+countOf byte = cond (eqb byte 0) 256 byte
+
+abbrev pub count : List ℕ → ℕ
+count body = countOf (fis body 12)
+
+-- uDataLength
+abbrev pub dataLength : List ℕ → ℕ
+dataLength body = number (part body 40 4)
+
+-- all of it together, as the code reads it
+unfoldable pub asked : List ℕ → Request
+asked body =
+    record { command = command body; addressed = addressed body; lba = lba body; count = count body; «data_length» = dataLength body }
+
+-- ---- what the disk answers
+
+-- "Success is 50h, 0", with the bytes that it moves
+abbrev pub success : ℕ → Answer
+success moved = record { status = 0x50; error = 0; moved = moved }
+
+-- "status 51h", with an error, and no byte is moved
+abbrev pub failure : ℕ → Answer
+failure error = record { status = 0x51; error = error; moved = 0 }
+
+-- "Bit 6 of byte 7 clear: status 51h, error 04h. Past the last sector: 51h, 10h"
+unfoldable pub transfer : Bool → ℕ → ℕ → Answer
+transfer addressed lba count =
+    cond addressed (cond (ltb 16 (lba + count)) (failure 0x10) (success (512 * count))) (failure 0x04)
+
+-- "20h reads and 30h writes sectors", "ECh gives 512 bytes", "E5h succeeds", "Other commands: 51h, 04h"
+unfoldable pub judged : ℕ → Bool → ℕ → ℕ → Answer
+judged command addressed lba count =
+    cond (eqb command 0x20) (transfer addressed lba count)
+    (cond (eqb command 0x30) (transfer addressed lba count)
+    (cond (eqb command 0xec) (success 512)
+    (cond (eqb command 0xe5) (success 0)
+    (failure 0x04))))
+
+-- the answer to a request, and to the body that holds it
+abbrev pub answerTo : Request → Answer
+answerTo r = judged (r .command) (r .addressed) (r .lba) (r .count)
+
+abbrev pub answer : List ℕ → Answer
+answer body = answerTo (asked body)
+
+-- "ECh gives 512 bytes, word 49 = 0200h, word 60 = 16, else 0"
+unfoldable pub identify : List ℕ
+identify = splice (splice (replicate 512 0) (2 * 49) (bytes 2 0x0200)) (2 * 60) (bytes 2 16)
+
+-- the sectors that a request names
+abbrev pub sectors : List ℕ → Request → List ℕ
+sectors disk r = part disk (512 * r .lba) (512 * r .count)
+
+-- ---- the Status structure
+
+-- "E5h succeeds with FFh in byte 12"
+unfoldable pub byteTwelve : ℕ → ℕ → ℕ
+byteTwelve command byte = cond (eqb command 0xe5) 0xff byte
+
+-- "status FIS 34h, 0, status, error, bytes 4–13 of the command FIS (byte 12 as above), then 0"
+abbrev pub statusFis : List ℕ → ℕ → ℕ → ℕ → List ℕ
+statusFis body status error twelve =
+    0x34 ∷ 0 ∷ status ∷ error
+    ∷ fis body 4 ∷ fis body 5 ∷ fis body 6 ∷ fis body 7 ∷ fis body 8 ∷ fis body 9 ∷ fis body 10 ∷ fis body 11 ∷ twelve ∷ fis body 13
+    ∷ 0 ∷ 0 ∷ 0 ∷ 0 ∷ 0 ∷ 0 ∷ []
+
+-- "connection OPEN_ACCEPT", which is 0; "uSCR and reserved bytes 0; uDataBytes the bytes moved"
+unfoldable pub statusOf : List ℕ → ℕ → Answer → List ℕ
+statusOf body twelve a =
+    (0 ∷ 0 ∷ 0 ∷ 0 ∷ []) ++ (statusFis body (a .status) (a .error) twelve ++ (replicate 64 0 ++ bytes 4 (a .moved)))
+
+-- the body with Status filled in
+unfoldable pub replied : List ℕ → Request → Answer → List ℕ
+replied body r a = splice body 44 (statusOf body (byteTwelve (r .command) (fis body 12)) a)
+
+-- ---- what a request leaves
+
+-- the return code, the disk and the body
+pub record Served : Type 0 where
+  pub code : ℕ
+  pub disk : List ℕ
+  pub body : List ℕ
+
+abbrev pub left : ℕ → List ℕ → List ℕ → Served
+left code disk body = record { code = code; disk = disk; body = body }
+
+-- "If the data of a success exceeds uDataLength: code 3. Otherwise code 0 and Status", the data going "to or from the start of
+-- bDataBuffer". "Such a 30h with status 50h writes its sectors"
+unfoldable pub acted : List ℕ → List ℕ → Request → Answer → Served
+acted disk body r a =
+    cond (ltb (r .«data_length») (a .moved)) (left invalidParameter disk body)
+    (cond (eqb (a .status) 0x51) (left 0 disk (replied body r a))
+    (cond (eqb (r .command) 0x20) (left 0 disk (splice (replied body r a) 136 (sectors disk r)))
+    (cond (eqb (r .command) 0xec) (left 0 disk (splice (replied body r a) 136 identify))
+    (cond (eqb (r .command) 0x30) (left 0 (splice disk (512 * r .lba) (part body 136 (512 * r .count))) (replied body r a))
+    (left 0 disk (replied body r a))))))
+
+-- a request as it came
+unfoldable pub served : List ℕ → List ℕ → Served
+served disk body = acted disk body (asked body) (answer body)
+
+-- what a caller sees to: the disk is whole, and the body has the fixed part and n bytes of data
+abbrev pub Lent : List ℕ → List ℕ → ℕ → Type 0
+Lent disk body n = (length disk ≡ 8192) × (136 + n ≤ length body)

@@ -1,0 +1,14 @@
+-- `fields::empty_holds` meets its contract. Assumes nothing.
+use Rattle.fields.specs.Rules.{emptyHolds}
+use Rattle.phy.specs.Entity.{attachedOf}
+use Rattle.phy.specs.Field.{within}
+use borrow.Author.Needs.{needs}
+use Rattle.fields.proofs.empty_holds.Statement.{statement}
+use Rattle.fields.proofs.empty_holds.Tie as tie
+
+pub empty-holds-spec : {M : Type 1} → statement M
+unfolding emptyHolds attachedOf
+empty-holds-spec =
+    tie.close
+    (tie.spec (λ c. search needs) (λ c κs. search (within, needs)) (λ c. search needs) (λ c κs. search needs)
+    (λ c. cc))

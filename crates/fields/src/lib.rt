@@ -1,0 +1,137 @@
+// The field rules of one phy (document 01, "Adapter file", "Field rules"), and whether it is all zero. The rule of the negotiated
+// rate rests on the link rule and is not here.
+use phy::ATTACHED;
+use phy::CLASS;
+use phy::IDENTIFIER;
+use phy::MAXIMUM;
+use phy::MINIMUM;
+use phy::PORT;
+use phy::Phy;
+use phy::PhyIdentifier;
+ghost use mathlib.Core.Path.{_≡_};
+ghost use Rattle.wire.specs.Same.{allZero};
+ghost use Rattle.fields.specs.Rules.{isRate, inRange, identifyHolds, rangeHolds, ratesHold, emptyHolds, deviceHolds, attachedHold, signatureHold, fieldsHold, phyZero};
+
+// A rate code: 1.5 or 3.0 Gb/s.
+pub fn is_rate(code: u8) -> bool
+    ensures { λ r. ⌜ r ≡ isRate code ⌝ }
+{
+    (code == 8) | (code == 9)
+}
+
+fn in_range(least: u8, minimum: u8, maximum: u8, most: u8) -> bool
+    ensures { λ r. ⌜ r ≡ inRange least minimum maximum most ⌝ }
+{
+    is_rate(minimum)
+        & is_rate(maximum)
+        & (least <= minimum)
+        & (minimum <= maximum)
+        & (maximum <= most)
+}
+
+fn zero_bytes(s: &[u8]) -> bool
+    ensures { λ r. ⌜ r ≡ allZero (now (s .entry)) ⌝ }
+{
+    wire::zero_at(s, 0, s.len())
+}
+
+// The two are programmed rates that the phy's hardware allows.
+pub fn range_holds(phy: Phy, minimum: u8, maximum: u8) -> bool
+    ensures { λ r. ⌜ r ≡ rangeHolds phy minimum maximum ⌝ }
+{
+    let e = phy.entity;
+    in_range(e[MINIMUM] % 16, minimum, maximum, e[MAXIMUM] % 16)
+}
+
+fn identify_holds(phy: Phy, n: PhyIdentifier, p: u8) -> bool
+    ensures { λ r. ⌜ r ≡ identifyHolds phy n p ⌝ }
+{
+    let e = phy.entity;
+    (e[IDENTIFIER] == n.0) & (e[CLASS] <= 3) & (e[PORT] < p)
+}
+
+fn rates_hold(phy: Phy) -> bool
+    ensures { λ r. ⌜ r ≡ ratesHold phy ⌝ }
+{
+    let e = phy.entity;
+    let minimum = e[MINIMUM];
+    let maximum = e[MAXIMUM];
+    is_rate(minimum % 16)
+        & is_rate(maximum % 16)
+        & in_range(minimum % 16, minimum / 16, maximum / 16, maximum % 16)
+}
+
+fn empty_holds(phy: Phy) -> bool
+    ensures { λ r. ⌜ r ≡ emptyHolds phy ⌝ }
+{
+    let entity = phy.entity;
+    let signature = phy.signature;
+    wire::zero_at(&entity, ATTACHED, 28)
+        & zero_bytes(&signature)
+        & (phy.held == 0)
+        & (phy.lowest == 0)
+        & (phy.highest == 0)
+}
+
+fn device_holds(phy: Phy) -> bool
+    ensures { λ r. ⌜ r ≡ deviceHolds phy ⌝ }
+{
+    let e = phy.entity;
+    let device = e[ATTACHED];
+    ((device == 0x10) | (device == 0x20) | (device == 0x30))
+        & is_rate(phy.lowest)
+        & is_rate(phy.highest)
+        & (phy.lowest <= phy.highest)
+}
+
+fn attached_holds(phy: Phy) -> bool
+    ensures { λ r. ⌜ r ≡ attachedHold phy ⌝ }
+{
+    if phy.no_device() {
+        return empty_holds(phy);
+    }
+    device_holds(phy)
+}
+
+fn signature_zero(phy: Phy) -> bool
+    ensures { λ r. ⌜ r ≡ allZero (phy .signature) ⌝ }
+{
+    let signature = phy.signature;
+    zero_bytes(&signature)
+}
+
+fn signature_holds(phy: Phy) -> bool
+    ensures { λ r. ⌜ r ≡ signatureHold phy ⌝ }
+{
+    if phy.held == 1 {
+        return phy.is_sata();
+    }
+    signature_zero(phy)
+}
+
+// The field rules of phy n among p, but for the negotiated rate's.
+pub fn fields_hold(phy: Phy, n: PhyIdentifier, p: u8) -> bool
+    ensures { λ r. ⌜ r ≡ fieldsHold phy n p ⌝ }
+{
+    identify_holds(phy, n, p)
+        & rates_hold(phy)
+        & attached_holds(phy)
+        & (phy.held <= 1)
+        & (phy.fixed <= 1)
+        & signature_holds(phy)
+}
+
+// Every byte and every counter is 0.
+pub fn is_zero(phy: Phy) -> bool
+    ensures { λ r. ⌜ r ≡ phyZero phy ⌝ }
+{
+    let entity = phy.entity;
+    let k = phy.counters;
+    zero_bytes(&entity)
+        & ((k[0] == 0) & (k[1] == 0) & (k[2] == 0) & (k[3] == 0))
+        & signature_zero(phy)
+        & (phy.held == 0)
+        & (phy.fixed == 0)
+        & (phy.lowest == 0)
+        & (phy.highest == 0)
+}

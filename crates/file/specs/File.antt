@@ -1,0 +1,65 @@
+-- The opening's file part (document 01, "Adapter file"): what the file holds, and the checks in their order up to the fields.
+-- The negotiated rates, which the link rule gives, and the rows are tested after it. Assumes nothing.
+use mathlib.Core.Bool.{Bool, _&&_, cond}
+use mathlib.Core.List.{List}
+use Prim.Native.Nat.{ℕ}
+use lib.Dec.{ltb, eqb}
+use lib.ListN.{length}
+use Rattle.laws.specs.Fill.{padded}
+use Rattle.laws.specs.Splice.{part}
+use Rattle.codes.specs.Codes.{fileLength as badLength, blockCheck, badField}
+use Rattle.block.specs.Check.{blockAt, sound, soundTo}
+use Rattle.phy.specs.declared.Phy.{Phy}
+use Rattle.phy.specs.Block.{phyOf, zeroPhy}
+use Rattle.rows.specs.declared.Row.{Row}
+use Rattle.rows.specs.Row.{rowOf, zeroRow}
+use Rattle.adapter.specs.declared.Adapter.{Adapter}
+use Rattle.file.specs.declared.FileRead.{FileRead}
+use Rattle.layout.specs.Layout.{phyCount, rowCount, phyBlock, rowPlace, blocks, fileLength}
+use Rattle.layout.specs.Unnamed.{unnamedZero}
+use Rattle.adapter.specs.Adapter.{zeroAdapter, countsHold, fieldsAll}
+
+-- "Block 1+n, phy n", and row i of a file with p phys
+unfoldable pub phyAt : List ℕ → ℕ → Phy
+phyAt file n = phyOf (blockAt file (phyBlock n))
+
+unfoldable pub rowAt : List ℕ → ℕ → ℕ → Row
+rowAt file p i = rowOf file (rowPlace p i)
+
+-- "The state is the level and what the file holds, zero past p and a"
+unfoldable pub adapterOf : List ℕ → ℕ → ℕ → Adapter
+adapterOf file p a =
+    record {
+      «phy_count» = p;
+      «row_count» = a;
+      info = part file 4 174;
+      phys = padded (phyAt file) p 32 zeroPhy;
+      rows = padded (rowAt file p) a 64 zeroRow;
+    }
+
+abbrev pub refused : ℕ → FileRead
+refused call = record { call = call; adapter = zeroAdapter }
+
+-- the adapter, or 104 where it breaks a rule: "count or field"
+abbrev pub judged : Bool → Adapter → FileRead
+judged ok ad = cond ok (record { call = 0; adapter = ad }) (refused badField)
+
+-- "Opening checks, in order: .. file under 512 bytes; block 0's check; p and a; file length; other checks, lowest block
+-- first; fields". Here the last two,
+unfoldable pub fieldsRead : List ℕ → ℕ → ℕ → FileRead
+fieldsRead file p a =
+    cond (soundTo file (blocks p a)) (judged (unnamedZero file p a && fieldsAll (adapterOf file p a)) (adapterOf file p a)) (refused blockCheck)
+
+-- then the length,
+unfoldable pub lengthRead : List ℕ → ℕ → ℕ → FileRead
+lengthRead file p a = cond (eqb (fileLength p a) (length file)) (fieldsRead file p a) (refused badLength)
+
+-- the counts,
+unfoldable pub countsRead : List ℕ → ℕ → ℕ → FileRead
+countsRead file p a = cond (countsHold p a) (lengthRead file p a) (refused badField)
+
+-- and block 0
+unfoldable pub fileRead : List ℕ → FileRead
+fileRead file =
+    cond (ltb (length file) 512) (refused badLength)
+    (cond (sound (blockAt file 0) 0) (countsRead file (phyCount file) (rowCount file)) (refused blockCheck))

@@ -1,0 +1,11 @@
+-- `layout::unnamed::unnamed_zero` meets its contract. Assumes nothing.
+use Rattle.layout.specs.Unnamed.{unnamedZero}
+use borrow.Author.Needs.{needs}
+use Rattle.layout.proofs.unnamed.unnamed_zero.Statement.{statement}
+use Rattle.layout.proofs.unnamed.unnamed_zero.Tie as tie
+
+pub unnamed-zero-spec : {M : Type 1} → statement M
+unfolding unnamedZero
+unnamed-zero-spec =
+    tie.close
+    (tie.spec (λ c κs. search needs) (λ c κs. search needs) (λ c κs. search needs) (λ c κs. search needs) (λ c. cc))

@@ -1,0 +1,16 @@
+-- The starred file lengths of document 01 ("Starred cases"): p = 4 with 25 and with 26 rows. Assumes nothing.
+use mathlib.Core.Path.{refl}
+use mathlib.Core.List.{List, [], _∷_}
+use Prim.Native.Nat.{ℕ}
+use Rattle.laws.specs.Cases.{Case, Holds, All}
+use Rattle.layout.specs.Layout.{fileLength}
+
+-- the counts p and a, with the length of the file
+abbrev pub lengthFor : ℕ → ℕ → ℕ → Case
+lengthFor p a n = record { gives = fileLength p a ∷ []; said = n ∷ [] }
+
+abbrev pub cases : List Case
+cases = lengthFor 4 25 3072 ∷ lengthFor 4 26 3584 ∷ []
+
+pub starred : All Holds cases
+starred = (refl, (refl, tt))

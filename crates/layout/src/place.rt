@@ -1,0 +1,44 @@
+// Where things stand in an adapter file. No other code says it.
+ghost use mathlib.Core.Path.{_≡_};
+ghost use Prim.Native.Nat.{_≤_, _<_};
+ghost use Rattle.layout.specs.Layout.{phyPlace, rowBlocks, rowBlockPlace, rowPlace, blocks};
+
+// Where phy n's block starts.
+pub fn phy_place(n: usize) -> usize
+    requires { ⌜ n < 32 ⌝ }
+    ensures { λ r. ⌜ r ≡ phyPlace n ⌝ }
+{
+    512 * (1 + n)
+}
+
+// How many blocks a rows take.
+pub fn row_blocks(a: usize) -> usize
+    requires { ⌜ a ≤ 64 ⌝ }
+    ensures { λ r. ⌜ r ≡ rowBlocks a ⌝ }
+{
+    (a + 24) / 25
+}
+
+// Where the b-th block of rows starts, in a file with p phys.
+pub fn row_block_place(p: usize, b: usize) -> usize
+    requires { ⌜ (p ≤ 32) × (b < 3) ⌝ }
+    ensures { λ r. ⌜ r ≡ rowBlockPlace p b ⌝ }
+{
+    512 * (1 + p + b)
+}
+
+// Where row i stands, in a file with p phys.
+pub fn row_place(p: usize, i: usize) -> usize
+    requires { ⌜ (p ≤ 32) × (i < 64) ⌝ }
+    ensures { λ r. ⌜ r ≡ rowPlace p i ⌝ }
+{
+    row_block_place(p, i / 25) + 20 * (i % 25)
+}
+
+// How many blocks a file with p phys and a rows has.
+pub fn block_count(p: usize, a: usize) -> usize
+    requires { ⌜ (p ≤ 32) × (a ≤ 64) ⌝ }
+    ensures { λ r. ⌜ r ≡ blocks p a ⌝ }
+{
+    1 + p + row_blocks(a)
+}

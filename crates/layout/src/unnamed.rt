@@ -1,0 +1,81 @@
+// "Bytes not named, and bytes past the last row, are 0."
+use crate::place;
+ghost use mathlib.Core.Path.{_≡_};
+ghost use Prim.Native.Nat.{_+_, _-_, _*_, _≤_, _<_, min};
+ghost use lib.ListN.{length};
+ghost use Rattle.laws.specs.All.{allTo};
+ghost use Rattle.layout.specs.Layout.{rowBlocks, fileLength};
+ghost use Rattle.layout.specs.Unnamed.{headZero, phyBlockZero, rowBlockZero, unnamedZero};
+
+// Those of block 0.
+fn head_zero(file: &[u8]) -> bool
+    requires { ⌜ 512 ≤ length (now file) ⌝ }
+    ensures { λ r. ⌜ r ≡ headZero (now (file .entry)) ⌝ }
+{
+    wire::zero_at(file, 2, 2) & wire::zero_at(file, 178, 330)
+}
+
+// Those of phy n's block.
+fn phy_block_zero(file: &[u8], n: usize) -> bool
+    requires { ⌜ (n < 32) × (512 * (1 + n) + 512 ≤ length (now file)) ⌝ }
+    ensures { λ r. ⌜ r ≡ phyBlockZero (now (file .entry)) n ⌝ }
+{
+    wire::zero_at(file, place::phy_place(n) + 104, 404)
+}
+
+fn phy_blocks_zero(file: &[u8], p: usize) -> bool
+    requires { ⌜ (p ≤ 32) × (512 * (1 + p) ≤ length (now file)) ⌝ }
+    ensures { λ r. ⌜ r ≡ allTo (phyBlockZero (now (file .entry))) p ⌝ }
+{
+    let mut k = 0;
+    while k < p {
+        if phy_block_zero(file, k) {
+            k += 1;
+        } else {
+            return false;
+        }
+    }
+    true
+}
+
+// How many of a rows stand in the b-th of their blocks.
+fn rows_in(a: usize, b: usize) -> usize
+    requires { ⌜ 25 * b ≤ a ⌝ }
+    ensures { λ r. ⌜ r ≡ min 25 (a - 25 * b) ⌝ }
+{
+    let left = a - 25 * b;
+    if left < 25 { left } else { 25 }
+}
+
+// Those behind the rows in the b-th of their blocks.
+fn row_block_zero(file: &[u8], p: usize, a: usize, b: usize) -> bool
+    requires { ⌜ (p ≤ 32) × (a ≤ 64) × (b < rowBlocks a) × (length (now file) ≡ fileLength p a) ⌝ }
+    ensures { λ r. ⌜ r ≡ rowBlockZero (now (file .entry)) p a b ⌝ }
+{
+    let used = 20 * rows_in(a, b);
+    wire::zero_at(file, place::row_block_place(p, b) + used, 508 - used)
+}
+
+// The same of each of their n blocks.
+fn row_blocks_zero(file: &[u8], p: usize, a: usize, n: usize) -> bool
+    requires { ⌜ (p ≤ 32) × (a ≤ 64) × (n ≡ rowBlocks a) × (length (now file) ≡ fileLength p a) ⌝ }
+    ensures { λ r. ⌜ r ≡ allTo (rowBlockZero (now (file .entry)) p a) n ⌝ }
+{
+    let mut k = 0;
+    while k < n {
+        if row_block_zero(file, p, a, k) {
+            k += 1;
+        } else {
+            return false;
+        }
+    }
+    true
+}
+
+pub fn unnamed_zero(file: &[u8], p: usize, a: usize) -> bool
+    requires { ⌜ (p ≤ 32) × (a ≤ 64) × (length (now file) ≡ fileLength p a) ⌝ }
+    ensures { λ r. ⌜ r ≡ unnamedZero (now (file .entry)) p a ⌝ }
+{
+    let n = place::row_blocks(a);
+    head_zero(file) & phy_blocks_zero(file, p) & row_blocks_zero(file, p, a, n)
+}

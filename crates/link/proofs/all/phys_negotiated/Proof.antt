@@ -1,0 +1,22 @@
+-- `link::all::phys_negotiated` meets its contract. Assumes nothing.
+use mathlib.Core.Path.{_≡_}
+use mathlib.Core.Bool.{true}
+use Prim.Native.Nat.{ℕ, _-_, _≤_}
+use lib.ListN.{getD}
+use Rattle.laws.specs.All.{allTo, all-loop}
+use Rattle.phy.specs.Block.{noPhy}
+use Rattle.link.specs.Rule.{negotiatedHolds}
+use Rattle.link.proofs.all.phys_negotiated.Statement.{statement}
+use Rattle.link.proofs.all.phys_negotiated.Tie as tie
+
+abbrev Inv-loop : tie.InvT-loop
+Inv-loop phys p k₀ k = (k ≤ p) × (allTo (λ (n : ℕ). negotiatedHolds (getD phys n noPhy)) k ≡ true)
+
+abbrev μ-loop : tie.MeasureT-loop
+μ-loop phys p k₀ k = p - k
+
+pub phys-negotiated-spec : {M : Type 1} → statement M
+phys-negotiated-spec =
+    tie.close
+    (tie.spec Inv-loop μ-loop (λ c. search all-loop) (λ c κs. search all-loop) (λ c. search all-loop)
+    (λ c. search all-loop) (λ c. search all-loop) (λ c. search all-loop) (λ c. search all-loop))

@@ -1,0 +1,114 @@
+-- What a link reset and disabling keep and set, and that the field rules go on holding. Assumes nothing.
+use mathlib.Core.Path.{_≡_, refl, sym, _∙_}
+use mathlib.Core.Bool.{Bool, true, cond, _||_}
+use Prim.Native.Nat.{ℕ}
+use lib.Dec.{eqb}
+use lib.ListN.{length}
+use borrow.Author.Tests.{eq-eqb}
+use Rattle.laws.specs.Choice.{by-bool, either}
+use Rattle.phy.specs.declared.Phy.{Phy}
+use Rattle.phy.specs.declared.PhyIdentifier.{PhyIdentifier}
+use Rattle.phy.specs.Entity.{byteOf, negotiatedPlace, negotiatedOf}
+use Rattle.phy.specs.Change.{cleared, raised, negotiatedAs}
+use Rattle.fields.specs.Rules.{fieldsHold}
+use Rattle.phy.specs.Kept.{Kept, Settings, kept-trans, settings-trans}
+use Rattle.phy.specs.Changed.{kept-cleared, kept-raised, kept-negotiated, settings-cleared, settings-raised, settings-negotiated, negotiated-cleared, negotiated-raised, negotiated-now, entity-raised, counters-raised, counters-negotiated, bytes-negotiated}
+use Rattle.fields.specs.Hold.{fields-kept}
+use Rattle.link.specs.Rule.{disabledRate, failedRate, ruleOf, counted, reset, disabled, negotiatedHolds}
+
+-- the rule goes by what neither changes
+pub rule-kept : (a b : Phy) → Kept a b → Settings a b → ruleOf b ≡ ruleOf a
+unfolding ruleOf
+rule-kept a b k s = cc
+
+-- a rate that is what the rule gives passes
+given : (phy : Phy) → negotiatedOf phy ≡ ruleOf phy → negotiatedHolds phy ≡ true
+unfolding negotiatedHolds
+given phy e =
+    by-bool (λ (t : Bool). t || eqb (negotiatedOf phy) (ruleOf phy) ≡ true) refl (eq-eqb (negotiatedOf phy) (ruleOf phy) e)
+    (eqb (negotiatedOf phy) disabledRate)
+
+pub holds-kept : (a b : Phy) → Kept a b → Settings a b → negotiatedOf b ≡ negotiatedOf a → negotiatedHolds b ≡ negotiatedHolds a
+unfolding negotiatedHolds
+holds-kept a b k s e = rw (e, rule-kept a b k s)
+
+pub holds-cleared : (phy : Phy) → negotiatedHolds (cleared phy) ≡ negotiatedHolds phy
+holds-cleared phy = holds-kept phy (cleared phy) (kept-cleared phy) (settings-cleared phy) (negotiated-cleared phy)
+
+-- ---- a link reset
+
+module _ (phy : Phy) where
+  -- the phy with the rate that the rule gives, before a failure is counted
+  abbrev linked : Phy
+  linked = negotiatedAs phy (ruleOf phy)
+
+  pub kept-reset : Kept phy (reset phy)
+  unfolding reset counted
+  kept-reset =
+      either (λ (b : Phy). Kept phy b) (eqb (ruleOf phy) failedRate)
+      (kept-trans phy linked (raised linked) (kept-negotiated phy (ruleOf phy)) (kept-raised linked))
+      (kept-negotiated phy (ruleOf phy))
+
+  pub settings-reset : Settings phy (reset phy)
+  unfolding reset counted
+  settings-reset =
+      either (λ (b : Phy). Settings phy b) (eqb (ruleOf phy) failedRate)
+      (settings-trans phy linked (raised linked) (settings-negotiated phy (ruleOf phy)) (settings-raised linked))
+      (settings-negotiated phy (ruleOf phy))
+
+  -- "a link reset" keeps every byte of the entity but the negotiated rate
+  pub bytes-reset : (i : ℕ) → (i ≡ negotiatedPlace → ⊥) → byteOf (reset phy) i ≡ byteOf phy i
+  unfolding reset counted
+  bytes-reset i h =
+      either (λ (b : Phy). byteOf b i ≡ byteOf phy i) (eqb (ruleOf phy) failedRate)
+      (rw (entity-raised linked) (bytes-negotiated phy (ruleOf phy) i h))
+      (bytes-negotiated phy (ruleOf phy) i h)
+
+  pub counters-reset : reset phy .counters ≡ cond (eqb (ruleOf phy) failedRate) (raised phy .counters) (phy .counters)
+  unfolding reset counted
+  counters-reset =
+      by-bool (λ (t : Bool). cond t (raised linked) linked .counters ≡ cond t (raised phy .counters) (phy .counters))
+      (rw (counters-raised, counters-raised, counters-negotiated)) (counters-negotiated phy (ruleOf phy)) (eqb (ruleOf phy) failedRate)
+
+  pub negotiated-reset : length (phy .entity) ≡ 64 → negotiatedOf (reset phy) ≡ ruleOf phy
+  unfolding reset counted
+  negotiated-reset e =
+      either (λ (b : Phy). negotiatedOf b ≡ ruleOf phy) (eqb (ruleOf phy) failedRate)
+      (negotiated-raised linked ∙ negotiated-now phy (ruleOf phy) e)
+      (negotiated-now phy (ruleOf phy) e)
+
+  pub holds-reset : length (phy .entity) ≡ 64 → negotiatedHolds (reset phy) ≡ true
+  holds-reset e = given (reset phy) (negotiated-reset e ∙ sym (rule-kept phy (reset phy) kept-reset settings-reset))
+
+  pub fields-reset : (n : PhyIdentifier) (p : ℕ) → fieldsHold (reset phy) n p ≡ fieldsHold phy n p
+  fields-reset n p = fields-kept phy (reset phy) n p kept-reset settings-reset
+
+-- ---- a phy disabled
+
+module _ (phy : Phy) where
+  pub kept-disabled : Kept phy (disabled phy)
+  unfolding disabled
+  kept-disabled = kept-negotiated phy disabledRate
+
+  pub settings-disabled : Settings phy (disabled phy)
+  unfolding disabled
+  settings-disabled = settings-negotiated phy disabledRate
+
+  pub bytes-disabled : (i : ℕ) → (i ≡ negotiatedPlace → ⊥) → byteOf (disabled phy) i ≡ byteOf phy i
+  unfolding disabled
+  bytes-disabled i h = bytes-negotiated phy disabledRate i h
+
+  pub counters-disabled : disabled phy .counters ≡ phy .counters
+  unfolding disabled
+  counters-disabled = counters-negotiated phy disabledRate
+
+  pub negotiated-disabled : length (phy .entity) ≡ 64 → negotiatedOf (disabled phy) ≡ disabledRate
+  unfolding disabled
+  negotiated-disabled e = negotiated-now phy disabledRate e
+
+  pub holds-disabled : length (phy .entity) ≡ 64 → negotiatedHolds (disabled phy) ≡ true
+  unfolding negotiatedHolds
+  holds-disabled e = rw (negotiated-disabled e)
+
+  pub fields-disabled : (n : PhyIdentifier) (p : ℕ) → fieldsHold (disabled phy) n p ≡ fieldsHold phy n p
+  fields-disabled n p = fields-kept phy (disabled phy) n p kept-disabled settings-disabled

@@ -1,0 +1,4 @@
+pub mod Rule
+pub mod Kept
+pub mod All
+pub mod Starred

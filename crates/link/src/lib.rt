@@ -1,0 +1,80 @@
+// The rate that a phy and the device attached to it agree on, a link reset, and a phy that is disabled (document 01, "Link
+// rule").
+mod all;
+
+pub use all::all_negotiated;
+use phy::Phy;
+ghost use mathlib.Core.Path.{_≡_};
+ghost use Rattle.link.specs.Rule.{inBoth, ratesRule, ruleOf, counted, reset, disabled, negotiatedHolds};
+
+// A disabled phy's negotiated rate.
+const DISABLED: u8 = 1;
+
+// The negotiated rate where the phy and the device have none in common.
+const FAILED: u8 = 2;
+
+fn in_both(rate: u8, minimum: u8, maximum: u8, lowest: u8, highest: u8) -> bool
+    ensures { λ r. ⌜ r ≡ inBoth rate minimum maximum lowest highest ⌝ }
+{
+    (minimum <= rate) & (rate <= maximum) & (lowest <= rate) & (rate <= highest)
+}
+
+fn rates_rule(none: bool, minimum: u8, maximum: u8, lowest: u8, highest: u8) -> u8
+    ensures { λ r. ⌜ r ≡ ratesRule none minimum maximum lowest highest ⌝ }
+{
+    if none {
+        return 0;
+    }
+    if in_both(9, minimum, maximum, lowest, highest) {
+        return 9;
+    }
+    if in_both(8, minimum, maximum, lowest, highest) {
+        return 8;
+    }
+    FAILED
+}
+
+// The rate that a link reset gives.
+pub fn rule(phy: Phy) -> u8
+    ensures { λ r. ⌜ r ≡ ruleOf phy ⌝ }
+{
+    rates_rule(
+        phy.no_device(),
+        phy.programmed_minimum(),
+        phy.programmed_maximum(),
+        phy.lowest,
+        phy.highest,
+    )
+}
+
+fn count_failure(phy: Phy, rate: u8) -> Phy
+    ensures { λ r. ⌜ r ≡ counted phy rate ⌝ }
+{
+    if rate == FAILED {
+        return phy.raised();
+    }
+    phy
+}
+
+// The phy after a link reset.
+pub fn reset(phy: Phy) -> Phy
+    ensures { λ r. ⌜ r ≡ reset phy ⌝ }
+{
+    let rate = rule(phy);
+    count_failure(phy.with_negotiated(rate), rate)
+}
+
+// The phy disabled.
+pub fn disabled(phy: Phy) -> Phy
+    ensures { λ r. ⌜ r ≡ disabled phy ⌝ }
+{
+    phy.with_negotiated(DISABLED)
+}
+
+// The field rule of the negotiated rate.
+pub fn negotiated_holds(phy: Phy) -> bool
+    ensures { λ r. ⌜ r ≡ negotiatedHolds phy ⌝ }
+{
+    let negotiated = phy.negotiated();
+    (negotiated == DISABLED) | (negotiated == rule(phy))
+}

@@ -1,0 +1,10 @@
+-- `phy::block::entity_of` meets its contract. Assumes nothing.
+use Rattle.phy.specs.Field.{copied}
+use borrow.Author.Needs.{needs}
+use Rattle.phy.proofs.block.entity_of.Statement.{statement}
+use Rattle.phy.proofs.block.entity_of.Tie as tie
+
+pub entity-of-spec : {M : Type 1} → statement M
+entity-of-spec =
+    tie.close
+    (tie.spec (λ c. search needs) (λ c κs. search needs) (λ c. search (copied, needs)))

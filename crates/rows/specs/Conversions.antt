@@ -1,0 +1,93 @@
+-- The two conversions undo each other on rows that hold (document 01: "27: the row with that SAS address and LUN gives the
+-- four OS bytes; 28: the other way"). Assumes nothing.
+use mathlib.Core.Path.{_≡_, refl, sym}
+use mathlib.Core.Bool.{Bool, true, false, not, _||_, cond, false≢true}
+use mathlib.Core.List.{List}
+use Prim.Native.Nat.{ℕ, zero, suc, _+_, _-_, _<_, _≤_}
+use native.Mathlib.Numerals.{add-one}
+use native.Mathlib.Omega.{arith}
+use Rattle.laws.specs.Choice.{by-bool}
+use Rattle.laws.specs.All.{all-at}
+use Rattle.laws.specs.First.{first, firstFrom, first-start, first-hit, first-miss}
+use Rattle.wire.specs.Same.{sameBytes, same-refl, same-eq}
+use Rattle.rows.specs.declared.Row.{Row}
+use Rattle.rows.specs.Row.{rowAt, apart, fresh, rowsHold, deviceIndex, osIndex}
+
+-- ---- a first number that was found passes the test, and one that alone passes is the first
+
+from-at : (f : ℕ → Bool) (i k : ℕ) → firstFrom f i k < i + k → f (firstFrom f i k) ≡ true
+unfolding firstFrom
+from-at f i zero h = absurd (omega arith)
+from-at f i (suc k) h =
+    by-bool (λ (b : Bool). f i ≡ b → cond b i (firstFrom f (suc i) k) < i + suc k → f (cond b i (firstFrom f (suc i) k)) ≡ true)
+    (λ e l. e) (λ e l. from-at f (suc i) k (omega arith)) (f i) refl h
+
+passed : (f : ℕ → Bool) (n i j : ℕ) → j ≤ i → i < n → ((m : ℕ) → m < i → f m ≡ false) → first f n ≡ firstFrom f j (n - j)
+passed f n i zero l h q = first-start f n
+passed f n i (suc j) l h q =
+    rw add-one at (first-miss f n j (omega arith) (passed f n i j (omega arith) h q) (q j (omega arith)))
+
+only : (f : ℕ → Bool) (n i : ℕ) → i < n → f i ≡ true → ((m : ℕ) → m < i → f m ≡ false) → first f n ≡ i
+only f n i h e q = sym (first-hit f n i h (passed f n i i (omega arith) h q) e)
+
+-- ---- rows that hold share no key, be it the device or the OS bytes
+
+neither-left : (a b : Bool) → not (a || b) ≡ true → a ≡ false
+neither-left true b p = absurd (false≢true p)
+neither-left false b p = refl
+
+neither-right : (a b : Bool) → not (a || b) ≡ true → b ≡ false
+neither-right true b p = absurd (false≢true p)
+neither-right false true p = absurd (false≢true p)
+neither-right false false p = refl
+
+pub hold-apart : (rows : List Row) (a i j : ℕ) → rowsHold rows a ≡ true → j < i → i < a → apart (rowAt rows j) (rowAt rows i) ≡ true
+unfolding rowsHold fresh
+hold-apart rows a i j p l h = all-at (λ (m : ℕ). apart (rowAt rows m) (rowAt rows i)) i j (all-at (fresh rows) a i p h) l
+
+module _ (key : Row → List ℕ) (rows : List Row) (a : ℕ) where
+  keyed : List ℕ → ℕ → Bool
+  keyed x i = sameBytes (key (rowAt rows i)) x
+
+  key-found : (x : List ℕ) → first (keyed x) a < a → key (rowAt rows (first (keyed x) a)) ≡ x
+  unfolding keyed
+  key-found x h = same-eq (key (rowAt rows (first (keyed x) a))) x (from-at (keyed x) 0 a (omega arith))
+
+  key-own : (i : ℕ) → i < a → ((j : ℕ) → j < i → sameBytes (key (rowAt rows j)) (key (rowAt rows i)) ≡ false)
+      → first (keyed (key (rowAt rows i))) a ≡ i
+  unfolding keyed
+  key-own i h q = only (keyed (key (rowAt rows i))) a i h (same-refl (key (rowAt rows i))) q
+
+-- ---- what upper crates cite, for rows of which the first a hold
+
+module _ (rows : List Row) (a : ℕ) where
+  -- the row that was found is the one asked for
+  pub device-found : (device : List ℕ) → deviceIndex rows a device < a → rowAt rows (deviceIndex rows a device) .device ≡ device
+  unfolding deviceIndex keyed
+  device-found device h = key-found (λ (r : Row). r .device) rows a device h
+
+  pub os-found : (os : List ℕ) → osIndex rows a os < a → rowAt rows (osIndex rows a os) .os ≡ os
+  unfolding osIndex keyed
+  os-found os h = key-found (λ (r : Row). r .os) rows a os h
+
+  -- each row is found by its own bytes
+  pub device-own : (i : ℕ) → rowsHold rows a ≡ true → i < a → deviceIndex rows a (rowAt rows i .device) ≡ i
+  unfolding deviceIndex keyed apart
+  device-own i p h =
+      key-own (λ (r : Row). r .device) rows a i h
+      (λ j l. neither-left (sameBytes (rowAt rows j .device) (rowAt rows i .device)) (sameBytes (rowAt rows j .os) (rowAt rows i .os)) (hold-apart rows a i j p l h))
+
+  pub os-own : (i : ℕ) → rowsHold rows a ≡ true → i < a → osIndex rows a (rowAt rows i .os) ≡ i
+  unfolding osIndex keyed apart
+  os-own i p h =
+      key-own (λ (r : Row). r .os) rows a i h
+      (λ j l. neither-right (sameBytes (rowAt rows j .device) (rowAt rows i .device)) (sameBytes (rowAt rows j .os) (rowAt rows i .os)) (hold-apart rows a i j p l h))
+
+  -- the reply to a 27 fed to a 28 gives the address back, and the other way
+  pub device-back : (device : List ℕ) → rowsHold rows a ≡ true → deviceIndex rows a device < a
+      → rowAt rows (osIndex rows a (rowAt rows (deviceIndex rows a device) .os)) .device ≡ device
+  device-back device p h = rw (os-own (deviceIndex rows a device) p h) (device-found device h)
+
+  pub os-back : (os : List ℕ) → rowsHold rows a ≡ true → osIndex rows a os < a
+      → rowAt rows (deviceIndex rows a (rowAt rows (osIndex rows a os) .device)) .os ≡ os
+  os-back os p h = rw (device-own (osIndex rows a os) p h) (os-found os h)

@@ -1,0 +1,79 @@
+-- Address rows (document 01, "Adapter file"), and what upper crates cite of zero rows. Assumes nothing.
+use mathlib.Core.Path.{_≡_, ap₂}
+use mathlib.Core.Bool.{Bool, true, not, _&&_, _||_}
+use mathlib.Core.List.{List, []}
+use Prim.Native.Nat.{ℕ, _+_, _-_, _<_, _≤_}
+use native.Mathlib.Omega.{arith}
+use lib.ListN.{getD, replicate}
+use Rattle.laws.specs.Choice.{both, both-left, both-right}
+use Rattle.laws.specs.All.{allTo, all-at, all-by}
+use Rattle.laws.specs.First.{first}
+use Rattle.laws.specs.Splice.{part}
+use Rattle.wire.specs.Same.{sameBytes, same-refl, same-eq}
+use Rattle.rows.specs.declared.Row.{Row}
+
+-- "rows of 20 bytes ..: SAS address 8, SAS LUN 8, host index, path, target, LUN": the row whose bytes stand at an index
+unfoldable pub rowOf : List ℕ → ℕ → Row
+rowOf bytes at = record { device = part bytes at 16; os = part bytes (at + 16) 4 }
+
+-- "bytes past the last row, are 0"
+abbrev pub zeroRow : Row
+zeroRow = record { device = replicate 16 0; os = replicate 4 0 }
+
+-- what stands past the end of a list of rows
+abbrev pub noRow : Row
+noRow = record { device = []; os = [] }
+
+abbrev pub rowAt : List Row → ℕ → Row
+rowAt rows i = getD rows i noRow
+
+-- two rows that share neither "SAS address and LUN" nor "all four OS bytes"
+unfoldable pub apart : Row → Row → Bool
+apart r s = not (sameBytes (r .device) (s .device) || sameBytes (r .os) (s .os))
+
+-- row i shares nothing with a row before it
+unfoldable pub fresh : List Row → ℕ → Bool
+fresh rows i = allTo (λ j. apart (rowAt rows j) (rowAt rows i)) i
+
+-- "No two rows share SAS address and LUN; no two share all four OS bytes"
+unfoldable pub rowsHold : List Row → ℕ → Bool
+rowsHold rows a = allTo (fresh rows) a
+
+-- the row is zero
+unfoldable pub rowZero : Row → Bool
+rowZero r = sameBytes (r .device) (replicate 16 0) && sameBytes (r .os) (replicate 4 0)
+
+-- "zero past p and a": the rows from a up to 64
+unfoldable pub zeroFrom : List Row → ℕ → Bool
+zeroFrom rows a = allTo (λ k. rowZero (rowAt rows (a + k))) (64 - a)
+
+-- "the row with that SAS address and LUN", and "the other way": found where it is below a
+unfoldable pub deviceIndex : List Row → ℕ → List ℕ → ℕ
+deviceIndex rows a device = first (λ i. sameBytes (rowAt rows i .device) device) a
+
+unfoldable pub osIndex : List Row → ℕ → List ℕ → ℕ
+osIndex rows a os = first (λ i. sameBytes (rowAt rows i .os) os) a
+
+-- ---- zero from a on is what it says of each row
+
+made : List ℕ → List ℕ → Row
+made device os = record { device = device; os = os }
+
+zero-eq : (r : Row) → rowZero r ≡ true → r ≡ zeroRow
+unfolding rowZero made
+zero-eq r p =
+    ap₂ made (same-eq (r .device) (replicate 16 0) (both-left (sameBytes (r .device) (replicate 16 0)) (sameBytes (r .os) (replicate 4 0)) p))
+    (same-eq (r .os) (replicate 4 0) (both-right (sameBytes (r .device) (replicate 16 0)) (sameBytes (r .os) (replicate 4 0)) p))
+
+pub zero-at : (rows : List Row) (a i : ℕ) → zeroFrom rows a ≡ true → a ≤ i → i < 64 → rowAt rows i ≡ zeroRow
+unfolding zeroFrom
+zero-at rows a i p h l =
+    let e : a + (i - a) ≡ i = omega arith in
+    let q : rowZero (rowAt rows (a + (i - a))) ≡ true = all-at (λ (k : ℕ). rowZero (rowAt rows (a + k))) (64 - a) (i - a) p (omega arith) in
+    zero-eq (rowAt rows i) (rw e at q)
+
+pub zero-by : (rows : List Row) (a : ℕ) → ((i : ℕ) → a ≤ i → i < 64 → rowAt rows i ≡ zeroRow) → zeroFrom rows a ≡ true
+unfolding zeroFrom rowZero
+zero-by rows a h =
+    all-by (λ (k : ℕ). rowZero (rowAt rows (a + k))) (64 - a)
+    (λ k l. rw (h (a + k) (omega arith) (omega arith)) (both (sameBytes (replicate 16 0) (replicate 16 0)) (sameBytes (replicate 4 0) (replicate 4 0)) (same-refl (replicate 16 0)) (same-refl (replicate 4 0))))
