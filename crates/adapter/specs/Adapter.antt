@@ -1,7 +1,6 @@
 -- The tables and counters of an adapter, and the rules that the file and the state share (document 01, "Adapter file" and
 -- "From the state"). Assumes nothing.
 use mathlib.Core.Bool.{Bool, _&&_}
-use mathlib.Core.List.{List}
 use Prim.Native.Nat.{ℕ, _+_, _-_}
 use lib.Dec.{leb}
 use lib.ListN.{getD, set, replicate}

@@ -1,8 +1,7 @@
 -- What storing one phy keeps of an adapter, and what the rules say of each phy: laws for the layers above. Assumes nothing.
-use mathlib.Core.Path.{_≡_, refl, sym, _∙_, ap, ap₂}
+use mathlib.Core.Path.{_≡_, refl, sym, _∙_, ap}
 use mathlib.Core.Logic.{_≢_}
 use mathlib.Core.Bool.{Bool, true, _&&_}
-use mathlib.Core.List.{List}
 use Prim.Native.Nat.{ℕ, _+_, _-_, _<_, _≤_}
 use native.Mathlib.Omega.{arith}
 use native.Mathlib.Decide.{ℕ-discrete}
@@ -11,7 +10,7 @@ use lib.ListN.{length, getD, set}
 use lib.Seq.{getD-set-same, getD-set-other}
 use borrow.Author.Tests.{leb-true}
 use Rattle.laws.specs.Choice.{both-left, both-right}
-use Rattle.laws.specs.All.{allTo, all-at, all-by, all-same}
+use Rattle.laws.specs.All.{all-at, all-by, all-same}
 use Rattle.phy.specs.declared.Phy.{Phy}
 use Rattle.phy.specs.Block.{noPhy}
 use Rattle.fields.specs.Rules.{fieldsHold, phyZero}

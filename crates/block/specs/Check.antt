@@ -1,4 +1,4 @@
--- Blocks and their checks (document 01, "Adapter file"), and what upper crates cite of them. Assumes nothing.
+-- Blocks and their checks (document 01, "Adapter file"), and laws about them. Assumes nothing.
 use mathlib.Core.Path.{_≡_}
 use mathlib.Core.Bool.{Bool, true}
 use mathlib.Core.List.{List}

@@ -39,7 +39,7 @@ fn mixed(d: u64, b: u8) -> u64
     (d * 257 + b as u64) % 4294967291
 }
 
-// A number that one other byte makes another.
+// A number that tells apart runs of bytes that differ in one byte.
 fn digest(s: &[u8], at: usize, n: usize) -> u64
     requires { ⌜ at + n ≤ length (now s) ⌝ }
 {

@@ -17,7 +17,7 @@ use Rattle.phy.specs.declared.PhyIdentifier.{PhyIdentifier}
 use Rattle.phy.specs.Block.{countersAt, phyOf, zeroPhy}
 use Rattle.phy.specs.Entity.{identifierOf, classOf, portOf, hardwareMinimum, hardwareMaximum, programmedMinimum, programmedMaximum, attachedOf, attachedType, noDevice, isSata}
 
--- "Identify's phy identifier = n, its signal class 0–3. Port identifier < p"
+-- "Identify's phy identifier = n, its signal class 0–3", and "Port identifier < p"
 unfoldable pub identifyHolds : Phy → PhyIdentifier → ℕ → Bool
 identifyHolds phy n p = eqb (identifierOf phy .0) (n .0) && leb (classOf phy) 3 && ltb (portOf phy .0) p
 
@@ -25,7 +25,7 @@ identifyHolds phy n p = eqb (identifierOf phy .0) (n .0) && leb (classOf phy) 3 
 unfoldable pub isRate : ℕ → Bool
 isRate code = eqb code 8 || eqb code 9
 
--- "hardware minimum ≤ programmed minimum ≤ programmed maximum ≤ hardware maximum"
+-- two rate codes, in "hardware minimum ≤ programmed minimum ≤ programmed maximum ≤ hardware maximum"
 unfoldable pub inRange : ℕ → ℕ → ℕ → ℕ → Bool
 inRange least minimum maximum most = isRate minimum && isRate maximum && leb least minimum && leb minimum maximum && leb maximum most
 
@@ -33,6 +33,7 @@ inRange least minimum maximum most = isRate minimum && isRate maximum && leb lea
 unfoldable pub rangeHolds : Phy → ℕ → ℕ → Bool
 rangeHolds phy minimum maximum = inRange (hardwareMinimum phy) minimum maximum (hardwareMaximum phy)
 
+-- the four rates of a phy are rate codes in that order
 unfoldable pub ratesHold : Phy → Bool
 ratesHold phy =
     isRate (hardwareMinimum phy) && isRate (hardwareMaximum phy) && rangeHolds phy (programmedMinimum phy) (programmedMaximum phy)

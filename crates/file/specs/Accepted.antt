@@ -1,7 +1,7 @@
--- A file whose file part gives 0: what was read passes the rules on counts and fields, and is zero past p and a. Laws for the
--- layers above. Assumes nothing.
-use mathlib.Core.Path.{_≡_, refl, sym, _∙_, ap}
-use mathlib.Core.Bool.{Bool, true, _&&_}
+-- A file whose file part gives 0 (the negotiated rates and the rows are judged after it): what was read passes the rules on
+-- counts and fields, and is zero past p and a. Laws for the layers above. Assumes nothing.
+use mathlib.Core.Path.{_≡_, _∙_, ap}
+use mathlib.Core.Bool.{true, _&&_}
 use mathlib.Core.List.{List}
 use Prim.Native.Nat.{ℕ, _+_, _-_, _<_, _≤_}
 use native.Mathlib.Omega.{arith}
@@ -9,22 +9,19 @@ use lib.Dec.{ltb, eqb}
 use lib.ListN.{length, getD}
 use borrow.Author.Tests.{eqb-true}
 use Rattle.laws.specs.All.{all-by}
-use Rattle.laws.specs.Choice.{both, both-left, both-right, came-then, came-else}
+use Rattle.laws.specs.Choice.{both, both-right, came-then, came-else}
 use Rattle.laws.specs.Fill.{padded, getD-padded, getD-past, length-padded}
 use Rattle.block.specs.Check.{blockAt, sound, soundTo}
-use Rattle.phy.specs.declared.Phy.{Phy}
 use Rattle.phy.specs.Block.{noPhy, zeroPhy}
 use Rattle.fields.specs.Rules.{phyZero, zero-phy}
 use Rattle.rows.specs.Row.{noRow, zeroRow, zero-by}
 use Rattle.layout.specs.Layout.{phyCount, rowCount, blocks, fileLength}
 use Rattle.layout.specs.Unnamed.{unnamedZero}
-use Rattle.adapter.specs.declared.Adapter.{Adapter}
 use Rattle.adapter.specs.Adapter.{phyIn, countsHold, fieldsAll, zeroPast}
-use Rattle.adapter.specs.Store.{phys-bound, rows-bound}
 use Rattle.file.specs.declared.FileRead.{FileRead}
 use Rattle.file.specs.File.{phyAt, rowAt, adapterOf, fileRead, countsRead, lengthRead, fieldsRead}
 
--- what an accepted file is
+-- what is known of a file that passed
 pub record Accepted (file : List ℕ) : Type 0 where
   pub read : fileRead file .adapter ≡ adapterOf file (phyCount file) (rowCount file)
   pub counts : countsHold (phyCount file) (rowCount file) ≡ true
@@ -61,7 +58,7 @@ zero-read file p a =
     (λ i l. ap phyZero (getD-past (phyAt file) p 32 (p + i) zeroPhy noPhy (omega arith) (omega arith)) ∙ zero-phy))
     (zero-by (padded (rowAt file p) a 64 zeroRow) a (λ i h k. getD-past (rowAt file p) a 64 i zeroRow noRow h k))
 
--- each phy and row of it
+-- each phy of it
 pub phy-read : (file : List ℕ) (p a n : ℕ) → n < p → phyIn (adapterOf file p a) n ≡ phyAt file n
 unfolding adapterOf
 phy-read file p a n h = getD-padded (phyAt file) p 32 n zeroPhy noPhy h

@@ -45,20 +45,21 @@ abbrev pub judged : Bool → Adapter → FileRead
 judged ok ad = cond ok (record { call = 0; adapter = ad }) (refused badField)
 
 -- "Opening checks, in order: .. file under 512 bytes; block 0's check; p and a; file length; other checks, lowest block
--- first; fields". Here the last two,
+-- first; fields". Each definition below is what is left to do from one check on, the last checks first.
+-- "other checks" and "fields", with which the unnamed bytes are tested
 unfoldable pub fieldsRead : List ℕ → ℕ → ℕ → FileRead
 fieldsRead file p a =
     cond (soundTo file (blocks p a)) (judged (unnamedZero file p a && fieldsAll (adapterOf file p a)) (adapterOf file p a)) (refused blockCheck)
 
--- then the length,
+-- "file length", and what follows it
 unfoldable pub lengthRead : List ℕ → ℕ → ℕ → FileRead
 lengthRead file p a = cond (eqb (fileLength p a) (length file)) (fieldsRead file p a) (refused badLength)
 
--- the counts,
+-- "p and a", and what follows them
 unfoldable pub countsRead : List ℕ → ℕ → ℕ → FileRead
 countsRead file p a = cond (countsHold p a) (lengthRead file p a) (refused badField)
 
--- and block 0
+-- "file under 512 bytes; block 0's check", and what follows them: all of it
 unfoldable pub fileRead : List ℕ → FileRead
 fileRead file =
     cond (ltb (length file) 512) (refused badLength)

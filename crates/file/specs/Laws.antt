@@ -1,5 +1,5 @@
 -- Laws for the proofs of this crate: parts of a file as its blocks, and arrays filled from one. Assumes nothing.
-use mathlib.Core.Path.{_≡_, refl, sym, _∙_, ap}
+use mathlib.Core.Path.{_≡_, refl, _∙_, ap}
 use mathlib.Core.List.{List}
 use Prim.Native.Nat.{ℕ, _+_, _-_, _<_, _≤_}
 use native.Mathlib.Nat.{add-sub-cancel-left}
@@ -20,7 +20,7 @@ use Rattle.file.specs.File.{phyAt, adapterOf}
 pub padded-start : {A : Type 0} (f : ℕ → A) (N : ℕ) (z r : A) → r ≡ z → replicate N r ≡ padded f 0 N z
 padded-start f N z r e = ap (replicate N) e ∙ padded-none f N z
 
--- row i of a rows stands within the file
+-- row i of `a` rows stands within the file
 pub row-within : (l : List ℕ) (p a i : ℕ) → i < a → length l ≡ fileLength p a → rowPlace p i + 20 ≤ length l
 row-within l p a i h e = omega arith
 

@@ -188,7 +188,7 @@ fn put_head(file: &mut [u8], p: usize, a: usize) {
     put(file, 177, 0x5a);
 }
 
-// A sound file.
+// A file that passes every check but, perhaps, that of the negotiated rates, which is not made here.
 fn build(file: &mut [u8], p: usize, a: usize)
     requires { ⌜ (p < 64) × (a < 128) ⌝ }
 {

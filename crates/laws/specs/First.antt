@@ -9,16 +9,14 @@
 --
 -- Its result is `first f n`, its invariant `(i ≤ n) × (first f n ≡ firstFrom f i (n - i))`, and each of its needs is
 -- `search first-loop`. Assumes nothing.
-use mathlib.Core.Path.{_≡_, refl, sym, _∙_, ap, subst}
-use mathlib.Core.Bool.{Bool, true, false, cond, true≢false}
+use mathlib.Core.Path.{_≡_, sym, _∙_}
+use mathlib.Core.Bool.{Bool, true, false, cond}
 use Prim.Native.Nat.{ℕ, zero, suc, _+_, _-_, _<_, _≤_}
 use native.Mathlib.Numerals.{add-one}
-use native.Mathlib.Nat.{le-antisymm, not-suc-le-zero, sub-self, sub-zero, add-zero, add-suc, suc-add, le-of-suc-le-suc, zero-add}
+use native.Mathlib.Nat.{le-antisymm, sub-self, sub-zero}
 use native.Mathlib.Omega.{arith}
 use borrow.Author.Needs.{needs}
-use borrow.Author.Count.{below-more}
 use borrow.Author.Tests.{eq-eqb, ne-eqb}
-use Rattle.laws.specs.Choice.{by-bool}
 
 -- the first number from i on, of the k that stand there, of which f holds; past them where it holds of none
 unfoldable pub firstFrom : (ℕ → Bool) → ℕ → ℕ → ℕ

@@ -5,8 +5,8 @@ use mathlib.Core.List.{List, [], _∷_, _++_, append-assoc}
 use Prim.Native.Nat.{ℕ, zero, suc, _+_, _-_, _<_, _≤_}
 use native.Mathlib.Nat.{add-zero, sub-zero, zero-sub, suc-sub-suc, add-sub-cancel-left}
 use native.Mathlib.Omega.{arith}
-use lib.ListN.{length, getD, take, drop, set, length-append, length-drop, take-append-drop, List·getD-append}
-use lib.Seq.{length-take-le, take-all, take-at, take-take, take-length, take-append-le, take-nil, drop-drop, drop-at, drop-append-le, drop-append-add, getD-take, getD-drop, sets, sets-eq}
+use lib.ListN.{length, getD, take, drop, length-append, length-drop, take-append-drop, List·getD-append}
+use lib.Seq.{length-take-le, take-at, take-take, take-length, take-append-le, take-nil, drop-drop, drop-at, drop-append-add, getD-take, getD-drop, sets, sets-eq}
 
 module _ {A : Type 0} where
   -- the n elements from index at on

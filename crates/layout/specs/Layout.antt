@@ -1,6 +1,6 @@
--- Where things stand in an adapter file (document 01, "Adapter file"). No other file says it. Assumes nothing.
+-- Where the blocks of phys and rows stand in an adapter file, and how long it is (document 01, "Adapter file"). Assumes nothing.
 use mathlib.Core.List.{List}
-use Prim.Native.Nat.{ℕ, _+_, _*_, _/_, _%_}
+use Prim.Native.Nat.{ℕ, _+_, _-_, _*_, _/_, _%_, min}
 use lib.ListN.{getD}
 
 -- "Block 0: byte 0 the phy count p; byte 1 the row count a"
@@ -17,10 +17,14 @@ phyBlock n = 1 + n
 abbrev pub phyPlace : ℕ → ℕ
 phyPlace n = 512 * phyBlock n
 
--- "Then rows of 20 bytes, 25 to a block": how many blocks a rows take, where the b-th of them starts, and where row i
--- stands, in a file with p phys
+-- "Then rows of 20 bytes, 25 to a block": how many blocks `a` rows take, where their block b starts (b counts from 0), and
+-- where row i stands, in a file with p phys
 abbrev pub rowBlocks : ℕ → ℕ
 rowBlocks a = (a + 24) / 25
+
+-- how many of `a` rows stand in their block b
+abbrev pub rowsIn : ℕ → ℕ → ℕ
+rowsIn a b = min 25 (a - 25 * b)
 
 abbrev pub rowBlockPlace : ℕ → ℕ → ℕ
 rowBlockPlace p b = 512 * (1 + p + b)

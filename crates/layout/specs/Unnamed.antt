@@ -1,11 +1,11 @@
 -- The bytes of an adapter file that document 01 does not name ("Adapter file"). Assumes nothing.
 use mathlib.Core.Bool.{Bool, _&&_}
 use mathlib.Core.List.{List}
-use Prim.Native.Nat.{ℕ, _+_, _-_, _*_, min}
+use Prim.Native.Nat.{ℕ, _+_, _-_, _*_}
 use Rattle.laws.specs.All.{allTo}
 use Rattle.laws.specs.Splice.{part}
 use Rattle.wire.specs.Same.{allZero}
-use Rattle.layout.specs.Layout.{phyPlace, rowBlocks, rowBlockPlace}
+use Rattle.layout.specs.Layout.{phyPlace, rowBlocks, rowsIn, rowBlockPlace}
 
 -- "Bytes not named, and bytes past the last row, are 0": bytes 2, 3 and 178 to 507 of block 0,
 unfoldable pub headZero : List ℕ → Bool
@@ -15,9 +15,9 @@ headZero file = allZero (part file 2 2) && allZero (part file 178 330)
 unfoldable pub phyBlockZero : List ℕ → ℕ → Bool
 phyBlockZero file n = allZero (part file (phyPlace n + 104) 404)
 
--- and what stands behind the rows in the b-th of their blocks, which holds 25 or what is left of a
+-- and what stands behind the rows in their block b
 unfoldable pub rowBlockZero : List ℕ → ℕ → ℕ → ℕ → Bool
-rowBlockZero file p a b = allZero (part file (rowBlockPlace p b + 20 * min 25 (a - 25 * b)) (508 - 20 * min 25 (a - 25 * b)))
+rowBlockZero file p a b = allZero (part file (rowBlockPlace p b + 20 * rowsIn a b) (508 - 20 * rowsIn a b))
 
 unfoldable pub unnamedZero : List ℕ → ℕ → ℕ → Bool
 unnamedZero file p a = headZero file && allTo (phyBlockZero file) p && allTo (rowBlockZero file p a) (rowBlocks a)

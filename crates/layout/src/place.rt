@@ -1,4 +1,4 @@
-// Where things stand in an adapter file. No other code says it.
+// Where the blocks of phys and rows stand in an adapter file.
 ghost use mathlib.Core.Path.{_≡_};
 ghost use Prim.Native.Nat.{_≤_, _<_};
 ghost use Rattle.layout.specs.Layout.{phyPlace, rowBlocks, rowBlockPlace, rowPlace, blocks};
@@ -11,7 +11,7 @@ pub fn phy_place(n: usize) -> usize
     512 * (1 + n)
 }
 
-// How many blocks a rows take.
+// How many blocks `a` rows take.
 pub fn row_blocks(a: usize) -> usize
     requires { ⌜ a ≤ 64 ⌝ }
     ensures { λ r. ⌜ r ≡ rowBlocks a ⌝ }
@@ -19,7 +19,7 @@ pub fn row_blocks(a: usize) -> usize
     (a + 24) / 25
 }
 
-// Where the b-th block of rows starts, in a file with p phys.
+// Where block b of the rows starts, counting from 0, in a file with p phys.
 pub fn row_block_place(p: usize, b: usize) -> usize
     requires { ⌜ (p ≤ 32) × (b < 3) ⌝ }
     ensures { λ r. ⌜ r ≡ rowBlockPlace p b ⌝ }
@@ -35,7 +35,7 @@ pub fn row_place(p: usize, i: usize) -> usize
     row_block_place(p, i / 25) + 20 * (i % 25)
 }
 
-// How many blocks a file with p phys and a rows has.
+// How many blocks a file with p phys and `a` rows has.
 pub fn block_count(p: usize, a: usize) -> usize
     requires { ⌜ (p ≤ 32) × (a ≤ 64) ⌝ }
     ensures { λ r. ⌜ r ≡ blocks p a ⌝ }

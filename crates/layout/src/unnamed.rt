@@ -1,13 +1,13 @@
-// "Bytes not named, and bytes past the last row, are 0."
+// "Bytes not named, and bytes past the last row, are 0": a test for each kind of block.
 use crate::place;
 ghost use mathlib.Core.Path.{_≡_};
-ghost use Prim.Native.Nat.{_+_, _-_, _*_, _≤_, _<_, min};
+ghost use Prim.Native.Nat.{_+_, _*_, _≤_, _<_};
 ghost use lib.ListN.{length};
 ghost use Rattle.laws.specs.All.{allTo};
-ghost use Rattle.layout.specs.Layout.{rowBlocks, fileLength};
+ghost use Rattle.layout.specs.Layout.{rowBlocks, rowsIn, fileLength};
 ghost use Rattle.layout.specs.Unnamed.{headZero, phyBlockZero, rowBlockZero, unnamedZero};
 
-// Those of block 0.
+// The unnamed bytes of block 0 are 0.
 fn head_zero(file: &[u8]) -> bool
     requires { ⌜ 512 ≤ length (now file) ⌝ }
     ensures { λ r. ⌜ r ≡ headZero (now (file .entry)) ⌝ }
@@ -15,7 +15,7 @@ fn head_zero(file: &[u8]) -> bool
     wire::zero_at(file, 2, 2) & wire::zero_at(file, 178, 330)
 }
 
-// Those of phy n's block.
+// The unnamed bytes of phy n's block are 0.
 fn phy_block_zero(file: &[u8], n: usize) -> bool
     requires { ⌜ (n < 32) × (512 * (1 + n) + 512 ≤ length (now file)) ⌝ }
     ensures { λ r. ⌜ r ≡ phyBlockZero (now (file .entry)) n ⌝ }
@@ -38,16 +38,16 @@ fn phy_blocks_zero(file: &[u8], p: usize) -> bool
     true
 }
 
-// How many of a rows stand in the b-th of their blocks.
+// How many of `a` rows stand in their block b.
 fn rows_in(a: usize, b: usize) -> usize
     requires { ⌜ 25 * b ≤ a ⌝ }
-    ensures { λ r. ⌜ r ≡ min 25 (a - 25 * b) ⌝ }
+    ensures { λ r. ⌜ r ≡ rowsIn a b ⌝ }
 {
     let left = a - 25 * b;
     if left < 25 { left } else { 25 }
 }
 
-// Those behind the rows in the b-th of their blocks.
+// The bytes behind the rows in their block b are 0.
 fn row_block_zero(file: &[u8], p: usize, a: usize, b: usize) -> bool
     requires { ⌜ (p ≤ 32) × (a ≤ 64) × (b < rowBlocks a) × (length (now file) ≡ fileLength p a) ⌝ }
     ensures { λ r. ⌜ r ≡ rowBlockZero (now (file .entry)) p a b ⌝ }
@@ -56,7 +56,7 @@ fn row_block_zero(file: &[u8], p: usize, a: usize, b: usize) -> bool
     wire::zero_at(file, place::row_block_place(p, b) + used, 508 - used)
 }
 
-// The same of each of their n blocks.
+// The bytes behind the rows are 0 in each of the rows' n blocks.
 fn row_blocks_zero(file: &[u8], p: usize, a: usize, n: usize) -> bool
     requires { ⌜ (p ≤ 32) × (a ≤ 64) × (n ≡ rowBlocks a) × (length (now file) ≡ fileLength p a) ⌝ }
     ensures { λ r. ⌜ r ≡ allTo (rowBlockZero (now (file .entry)) p a) n ⌝ }

@@ -58,7 +58,7 @@ fn entry_end(text: &[u8], from: usize) -> usize
     i
 }
 
-// What the entry from one index up to another adds.
+// What was said before, and then by the entry from one index up to another.
 fn read_part(before: Setting, text: &[u8], from: usize, end: usize) -> Setting
     requires { ⌜ (from ≤ end) × (end ≤ length (now text)) ⌝ }
     ensures { λ r. ⌜ r ≡ after before (part (now (text .entry)) from (end - from)) ⌝ }

@@ -1,4 +1,4 @@
--- Address rows (document 01, "Adapter file"), and what upper crates cite of zero rows. Assumes nothing.
+-- Address rows (document 01, "Adapter file"), and what follows where they are zero. Assumes nothing.
 use mathlib.Core.Path.{_≡_, ap₂}
 use mathlib.Core.Bool.{Bool, true, not, _&&_, _||_}
 use mathlib.Core.List.{List, []}
@@ -16,7 +16,7 @@ use Rattle.rows.specs.declared.Row.{Row}
 unfoldable pub rowOf : List ℕ → ℕ → Row
 rowOf bytes at = record { device = part bytes at 16; os = part bytes (at + 16) 4 }
 
--- "bytes past the last row, are 0"
+-- what "zero past p and a" asks of a row
 abbrev pub zeroRow : Row
 zeroRow = record { device = replicate 16 0; os = replicate 4 0 }
 

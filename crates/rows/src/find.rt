@@ -6,7 +6,7 @@ ghost use mathlib.Core.Path.{_≡_};
 ghost use Prim.Native.Nat.{_≤_};
 ghost use Rattle.rows.specs.Row.{deviceIndex, osIndex};
 
-// The first of a rows that has this SAS address and LUN, or a.
+// The first of `a` rows that has this SAS address and LUN, or a.
 pub fn find_device(rows: [Row; 64], a: usize, device: &[u8]) -> usize
     requires { ⌜ a ≤ 64 ⌝ }
     ensures { λ r. ⌜ r ≡ deviceIndex rows a (now (device .entry)) ⌝ }
@@ -21,7 +21,7 @@ pub fn find_device(rows: [Row; 64], a: usize, device: &[u8]) -> usize
     a
 }
 
-// The first of a rows that has these four OS bytes, or a.
+// The first of `a` rows that has these four OS bytes, or a.
 pub fn find_os(rows: [Row; 64], a: usize, os: &[u8]) -> usize
     requires { ⌜ a ≤ 64 ⌝ }
     ensures { λ r. ⌜ r ≡ osIndex rows a (now (os .entry)) ⌝ }

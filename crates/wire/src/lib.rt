@@ -1,7 +1,6 @@
 // Bytes as CSMI lays them out: little-endian numbers read and written, copies, comparisons. Every contract is an equation
 // with a definition of specs/.
 ghost use mathlib.Core.Path.{_≡_};
-ghost use mathlib.Core.Bool.{_&&_};
 ghost use Prim.Native.Nat.{_+_, _*_, _≤_};
 ghost use lib.ListN.{length};
 ghost use Rattle.laws.specs.Splice.{part, splice};
@@ -76,7 +75,7 @@ pub fn copy_at(d: &mut [u8], at: usize, s: &[u8])
     copy_part(d, at, s, 0, s.len())
 }
 
-// The bytes of s from index at on are those of text.
+// The bytes of text stand in s from index at on.
 pub fn same_at(s: &[u8], at: usize, text: &[u8]) -> bool
     ensures { λ r. ⌜ r ≡ sameBytes (part (now (s .entry)) at (length (now (text .entry)))) (now (text .entry)) ⌝ }
 {
