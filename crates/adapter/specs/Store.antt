@@ -10,7 +10,7 @@ use lib.ListN.{length, getD, set}
 use lib.Seq.{getD-set-same, getD-set-other}
 use borrow.Author.Tests.{leb-true}
 use Rattle.laws.specs.Choice.{both-left, both-right}
-use Rattle.laws.specs.All.{all-at, all-by, all-same}
+use Rattle.laws.specs.All.{allTo, all-at, all-by, all-same}
 use Rattle.phy.specs.declared.Phy.{Phy}
 use Rattle.phy.specs.Block.{noPhy}
 use Rattle.fields.specs.Rules.{fieldsHold, phyZero}
@@ -43,17 +43,23 @@ pub fields-at : (ad : Adapter) (n : ℕ) → fieldsAll ad ≡ true → n < ad .�
 unfolding fieldsAll
 fields-at ad n p h = all-at (λ (i : ℕ). fieldsHold (phyIn ad i) (record { 0 = i }) (ad .«phy_count»)) (ad .«phy_count») n p h
 
--- a phy that keeps them may be stored
+-- a test that each phy below p passes, and that a phy passes as phy n, is passed by each after that phy is stored
+pub all-stored : (test : ℕ → Phy → Bool) (ad : Adapter) (n : ℕ) (phy : Phy) → n < length (ad .phys)
+    → allTo (λ (i : ℕ). test i (phyIn ad i)) (ad .«phy_count») ≡ true → test n phy ≡ true
+    → allTo (λ (i : ℕ). test i (phyIn (withPhy ad n phy) i)) (ad .«phy_count») ≡ true
+unfolding withPhy
+all-stored test ad n phy h p q =
+    all-by (λ (i : ℕ). test i (getD (set (ad .phys) n phy) i noPhy)) (ad .«phy_count») (λ i l. at i l (ℕ-discrete i n))
+  where
+    at : (i : ℕ) → i < ad .«phy_count» → Dec (i ≡ n) → test i (getD (set (ad .phys) n phy) i noPhy) ≡ true
+    at i l (yes e) = rw (e, getD-set-same (ad .phys) n phy noPhy h) q
+    at i l (no d) = rw (getD-set-other (ad .phys) n i phy noPhy d) (all-at (λ (j : ℕ). test j (phyIn ad j)) (ad .«phy_count») i p l)
+
+-- a phy that keeps the field rules may be stored
 pub fields-stored : (ad : Adapter) (n : ℕ) (phy : Phy) → n < length (ad .phys) → fieldsAll ad ≡ true
     → fieldsHold phy (record { 0 = n }) (ad .«phy_count») ≡ true → fieldsAll (withPhy ad n phy) ≡ true
 unfolding fieldsAll withPhy
-fields-stored ad n phy h p q =
-    all-by (λ (i : ℕ). fieldsHold (getD (set (ad .phys) n phy) i noPhy) (record { 0 = i }) (ad .«phy_count»)) (ad .«phy_count»)
-    (λ i l. at i l (ℕ-discrete i n))
-  where
-    at : (i : ℕ) → i < ad .«phy_count» → Dec (i ≡ n) → fieldsHold (getD (set (ad .phys) n phy) i noPhy) (record { 0 = i }) (ad .«phy_count») ≡ true
-    at i l (yes e) = rw (e, getD-set-same (ad .phys) n phy noPhy h) q
-    at i l (no d) = rw (getD-set-other (ad .phys) n i phy noPhy d) (all-at (λ (j : ℕ). fieldsHold (getD (ad .phys) j noPhy) (record { 0 = j }) (ad .«phy_count»)) (ad .«phy_count») i p l)
+fields-stored ad n phy h p q = all-stored (λ (i : ℕ) (x : Phy). fieldsHold x (record { 0 = i }) (ad .«phy_count»)) ad n phy h p q
 
 -- storing a phy below p changes nothing past p
 pub zero-stored : (ad : Adapter) (n : ℕ) (phy : Phy) → n < ad .«phy_count» → zeroPast (withPhy ad n phy) ≡ zeroPast ad
