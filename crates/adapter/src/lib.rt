@@ -3,6 +3,7 @@
 mod rules;
 
 use phy::Phy;
+use phy::PhyIdentifier;
 use rows::Row;
 pub use rules::counts_hold;
 pub use rules::fields_hold;
@@ -21,19 +22,21 @@ pub struct Adapter {
 }
 
 impl Adapter {
-    pub fn phy(self, n: usize) -> Phy
-        requires { ⌜ n < 32 ⌝ }
-        ensures { λ r. ⌜ r ≡ phyIn self n ⌝ }
+    // The phy with that identifier.
+    pub fn phy(self, n: PhyIdentifier) -> Phy
+        requires { ⌜ n .0 < 32 ⌝ }
+        ensures { λ r. ⌜ r ≡ phyIn self (n .0) ⌝ }
     {
         let phys = self.phys;
-        phys[n]
+        phys[n.0 as usize]
     }
 
-    pub fn with_phy(mut self, n: usize, phy: Phy) -> Adapter
-        requires { ⌜ n < 32 ⌝ }
-        ensures { λ r. ⌜ r ≡ withPhy self n phy ⌝ }
+    // The same adapter with another phy there.
+    pub fn with_phy(mut self, n: PhyIdentifier, phy: Phy) -> Adapter
+        requires { ⌜ n .0 < 32 ⌝ }
+        ensures { λ r. ⌜ r ≡ withPhy self (n .0) phy ⌝ }
     {
-        self.phys[n] = phy;
+        self.phys[n.0 as usize] = phy;
         self
     }
 }

@@ -9,7 +9,7 @@ use lib.ListN.{length, getD, replicate}
 use Rattle.laws.specs.Splice.{part, splice}
 use Rattle.codes.specs.Codes.{invalidParameter}
 use Rattle.wire.specs.Number.{number, bytes}
-use Rattle.disk.specs.declared.Request.{Request}
+use Rattle.disk.specs.declared.AtaCommand.{AtaCommand}
 use Rattle.disk.specs.declared.Answer.{Answer}
 
 -- ---- what the request asks
@@ -42,7 +42,7 @@ abbrev pub dataLength : List ℕ → ℕ
 dataLength body = number (part body 40 4)
 
 -- all of it together, as the code reads it
-unfoldable pub asked : List ℕ → Request
+unfoldable pub asked : List ℕ → AtaCommand
 asked body =
     record { command = command body; addressed = addressed body; lba = lba body; count = count body; «data_length» = dataLength body }
 
@@ -71,7 +71,7 @@ judged command addressed lba count =
     (failure 0x04))))
 
 -- the answer to a request, and to the body that holds it
-abbrev pub answerTo : Request → Answer
+abbrev pub answerTo : AtaCommand → Answer
 answerTo r = judged (r .command) (r .addressed) (r .lba) (r .count)
 
 abbrev pub answer : List ℕ → Answer
@@ -82,7 +82,7 @@ unfoldable pub identify : List ℕ
 identify = splice (splice (replicate 512 0) (2 * 49) (bytes 2 0x0200)) (2 * 60) (bytes 2 16)
 
 -- the sectors that a request names
-abbrev pub sectors : List ℕ → Request → List ℕ
+abbrev pub sectors : List ℕ → AtaCommand → List ℕ
 sectors disk r = part disk (512 * r .lba) (512 * r .count)
 
 -- ---- the Status structure
@@ -104,7 +104,7 @@ statusOf body twelve a =
     (0 ∷ 0 ∷ 0 ∷ 0 ∷ []) ++ (statusFis body (a .status) (a .error) twelve ++ (replicate 64 0 ++ bytes 4 (a .moved)))
 
 -- the body with Status filled in
-unfoldable pub replied : List ℕ → Request → Answer → List ℕ
+unfoldable pub replied : List ℕ → AtaCommand → Answer → List ℕ
 replied body r a = splice body 44 (statusOf body (byteTwelve (r .command) (fis body 12)) a)
 
 -- ---- what a request leaves
@@ -120,7 +120,7 @@ left code disk body = record { code = code; disk = disk; body = body }
 
 -- "If the data of a success exceeds uDataLength: code 3. Otherwise code 0 and Status", the data going "to or from the start of
 -- bDataBuffer". "Such a 30h with status 50h writes its sectors"
-unfoldable pub acted : List ℕ → List ℕ → Request → Answer → Served
+unfoldable pub acted : List ℕ → List ℕ → AtaCommand → Answer → Served
 acted disk body r a =
     cond (ltb (r .«data_length») (a .moved)) (left invalidParameter disk body)
     (cond (eqb (a .status) 0x51) (left 0 disk (replied body r a))

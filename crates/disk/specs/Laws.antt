@@ -8,13 +8,13 @@ use native.Mathlib.Omega.{arith}
 use lib.Dec.{eqb, ltb, leb}
 use lib.ListN.{length, getD}
 use borrow.Author.Tests.{ltb-true, ltb-false, leb-true, leb-false}
-use Rattle.laws.specs.Choice.{by-bool}
-use Rattle.laws.specs.Splice.{part, splice, length-part, length-splice, part-part, part-splice, part-below, part-above, get-in, get-below}
+use Rattle.laws.specs.Choice.{by-bool, either-by}
+use Rattle.laws.specs.Splice.{part, splice, length-part, length-splice, part-part, part-in, part-below, part-above, get-in, get-below}
 use Rattle.wire.specs.Number.{bytes}
 use Rattle.disk.specs.declared.Answer.{Answer}
-use Rattle.disk.specs.declared.Request.{Request}
+use Rattle.disk.specs.declared.AtaCommand.{AtaCommand}
 use Rattle.disk.specs.Disk.{fis, command, lba, count, dataLength, asked, answer, byteTwelve, statusOf, replied, Served, served, Lent}
-use Rattle.disk.specs.Ways.{either-by, writing, served-by}
+use Rattle.disk.specs.Ways.{writing, served-by}
 
 -- sector s of a disk
 abbrev pub sector : List ℕ → ℕ → List ℕ
@@ -54,7 +54,7 @@ pub record Replied (body : List ℕ) (status code : ℕ) (reply : List ℕ) : Ty
   pub front : (i n : ℕ) → i + n ≤ 44 → part reply i n ≡ part body i n
   pub shown : code ≡ 0 → replyStatus reply ≡ status
 
-with-status : (body : List ℕ) (r : Request) (a : Answer) → 136 ≤ length body → Replied body (a .status) 0 (replied body r a)
+with-status : (body : List ℕ) (r : AtaCommand) (a : Answer) → 136 ≤ length body → Replied body (a .status) 0 (replied body r a)
 unfolding replied
 with-status body r a h =
     let twelve : ℕ = byteTwelve (r .command) (fis body 12) in
@@ -76,10 +76,6 @@ with-data body reply s status h p =
     }
 
 -- ---- the sectors
-
--- a part of what was spliced in
-part-in : (d : List ℕ) (at : ℕ) (s : List ℕ) (i n : ℕ) → at ≤ length d → i + n ≤ length s → part (splice d at s) (at + i) n ≡ part s i n
-part-in d at s i n h k = sym (part-part (splice d at s) at (length s) i n k) ∙ ap (λ (l : List ℕ). part l i n) (part-splice d at s h)
 
 -- the sectors of a disk with some written from a body's data
 module _ (disk body : List ℕ) (from n k : ℕ) (h : 512 * from + 512 * n ≤ length disk) (m : 136 + 512 * n ≤ length body) where

@@ -13,7 +13,7 @@ use Rattle.laws.specs.Choice.{came-then, came-else}
 use Rattle.laws.specs.Splice.{part, splice}
 use Rattle.wire.specs.Number.{bytes}
 use Rattle.disk.specs.declared.Answer.{Answer}
-use Rattle.disk.specs.declared.Request.{Request}
+use Rattle.disk.specs.declared.AtaCommand.{AtaCommand}
 use Rattle.disk.specs.Disk.{left, success, failure, transfer, judged, statusOf, asked, dataLength}
 
 -- bytes 4 to 13 of the command FIS, one by one
@@ -33,7 +33,7 @@ unfolding splice statusOf bytes
 status-built body s t twelve a h p q = q ∙ rw (p, part-ten body h)
 
 -- a request as it was read leaves the room that its data length says
-pub asked-lent : (r : Request) (body : List ℕ) (n : ℕ) → r ≡ asked body → 136 + dataLength body ≤ n → 136 + r .«data_length» ≤ n
+pub asked-lent : (r : AtaCommand) (body : List ℕ) (n : ℕ) → r ≡ asked body → 136 + dataLength body ≤ n → 136 + r .«data_length» ≤ n
 unfolding asked
 asked-lent r body n e h = rw e h
 

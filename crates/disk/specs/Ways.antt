@@ -7,17 +7,13 @@ use native.Mathlib.Omega.{arith}
 use lib.Dec.{eqb, ltb}
 use lib.ListN.{length}
 use borrow.Author.Tests.{eqb-true, eqb-false, ltb-false}
+use Rattle.laws.specs.Choice.{either-by}
 use Rattle.laws.specs.Splice.{part, splice, length-part}
 use Rattle.wire.specs.Number.{bytes}
 use Rattle.disk.specs.declared.Answer.{Answer}
-use Rattle.disk.specs.declared.Request.{Request}
+use Rattle.disk.specs.declared.AtaCommand.{AtaCommand}
 use Rattle.disk.specs.Disk.{dataLength, asked, success, transfer, answer, answerTo, identify, sectors, replied, Served, left, acted, served, Lent}
 use Rattle.disk.specs.Stores.{Succeeds, transferred, read-transfers, write-transfers, sectors-inside, sectors-room, identify-room}
-
--- a choice by a test, whose outcome each answer may use
-pub either-by : {A : Type 0} (P : A → Type 0) (t : Bool) {a b : A} → (t ≡ true → P a) → (t ≡ false → P b) → P (cond t a b)
-either-by P true p q = p refl
-either-by P false p q = q refl
 
 no-and : (t : Bool) → t && false ≡ false
 no-and true = refl
@@ -28,18 +24,18 @@ unfolding identify splice bytes
 length-identify = refl
 
 -- the request is 30h and its answer 50h
-abbrev pub writing : Request → Answer → Bool
+abbrev pub writing : AtaCommand → Answer → Bool
 writing r a = eqb (r .command) 0x30 && eqb (a .status) 0x50
 
 -- what is shown of each: refused; a reply with no data; one with data s; a write
-pub record Ways (disk body : List ℕ) (r : Request) (a : Answer) (P : Served → Type 0) : Type 0 where
+pub record Ways (disk body : List ℕ) (r : AtaCommand) (a : Answer) (P : Served → Type 0) : Type 0 where
   pub refused : P (left 3 disk body)
   pub plain : writing r a ≡ false → P (left 0 disk (replied body r a))
   pub filled : (s : List ℕ) → writing r a ≡ false → 136 + length s ≤ length body → P (left 0 disk (splice (replied body r a) 136 s))
   pub written : writing r a ≡ true → r .lba + r .count ≤ 16 → 136 + 512 * r .count ≤ length body
       → P (left 0 (splice disk (512 * r .lba) (part body 136 (512 * r .count))) (replied body r a))
 
-module _ (disk body : List ℕ) (r : Request) (a : Answer) (e : a ≡ answerTo r) (h : Lent disk body (r .«data_length»)) where
+module _ (disk body : List ℕ) (r : AtaCommand) (a : Answer) (e : a ≡ answerTo r) (h : Lent disk body (r .«data_length»)) where
   -- 20h, ECh and 30h, each where it succeeds
   reads : (P : Served → Type 0) → Ways disk body r a P → Succeeds a → a .moved ≤ r .«data_length» → r .command ≡ 0x20
       → P (left 0 disk (splice (replied body r a) 136 (sectors disk r)))

@@ -1,6 +1,6 @@
 // What a request asks, read from its command FIS and its uDataLength, and what the disk answers to that.
 use crate::Answer;
-use crate::Request;
+use crate::AtaCommand;
 ghost use mathlib.Core.Path.{_≡_};
 ghost use Prim.Native.Nat.{_+_, _*_, _/_, _%_, _≤_};
 ghost use lib.Dec.{eqb};
@@ -29,11 +29,11 @@ fn sector_count(byte: u8) -> u32
 }
 
 // The command FIS starts at 16 of the body, and uDataLength stands at 40.
-pub fn parse(body: &[u8]) -> Request
+pub fn parse(body: &[u8]) -> AtaCommand
     requires { ⌜ 136 ≤ length (now body) ⌝ }
     ensures { λ r. ⌜ r ≡ asked (now (body .entry)) ⌝ }
 {
-    Request {
+    AtaCommand {
         command: body[18],
         addressed: bit_six(body[23]),
         lba: address(body[20], body[21], body[22], body[23]),

@@ -13,7 +13,7 @@ ghost use Rattle.laws.specs.Splice.{part, splice};
 ghost use Rattle.disk.specs.Disk.{dataLength, answerTo, replied, identify, sectors, left, acted, served, Lent};
 
 // What a request asks: the command's code, bit 6 of FIS byte 7, the LBA, the count of sectors, and uDataLength.
-pub struct Request {
+pub struct AtaCommand {
     pub command: u8,
     pub addressed: bool,
     pub lba: u32,
@@ -36,7 +36,7 @@ pub fn command(disk: &mut [u8], body: &mut [u8]) -> u32
     serve(disk, body, parse(body))
 }
 
-fn serve(disk: &mut [u8], body: &mut [u8], r: Request) -> u32
+fn serve(disk: &mut [u8], body: &mut [u8], r: AtaCommand) -> u32
     requires { ⌜ Lent (now disk) (now body) (r .«data_length») ⌝ }
     ensures { λ code. ⌜ left code (now (disk .exit)) (now (body .exit)) ≡ acted (now (disk .entry)) (now (body .entry)) r (answerTo r) ⌝ }
 {
@@ -44,7 +44,7 @@ fn serve(disk: &mut [u8], body: &mut [u8], r: Request) -> u32
 }
 
 // Does what the answer promises. Code 3 leaves everything as it was.
-fn act(disk: &mut [u8], body: &mut [u8], r: Request, a: Answer) -> u32
+fn act(disk: &mut [u8], body: &mut [u8], r: AtaCommand, a: Answer) -> u32
     requires { ⌜ Lent (now disk) (now body) (r .«data_length») ⌝ }
     requires { ⌜ a ≡ answerTo r ⌝ }
     ensures { λ code. ⌜ left code (now (disk .exit)) (now (body .exit)) ≡ acted (now (disk .entry)) (now (body .entry)) r a ⌝ }
@@ -54,26 +54,26 @@ fn act(disk: &mut [u8], body: &mut [u8], r: Request, a: Answer) -> u32
     }
     if a.status == 0x51 {
         put_status(body, r, a);
-        return 0;
+        return codes::SUCCESS;
     }
     if r.command == 0x20 {
         read(disk, body, r, a);
-        return 0;
+        return codes::SUCCESS;
     }
     if r.command == 0xec {
         describe(body, r, a);
-        return 0;
+        return codes::SUCCESS;
     }
     if r.command == 0x30 {
         write(disk, body, r, a);
-        return 0;
+        return codes::SUCCESS;
     }
     put_status(body, r, a);
-    0
+    codes::SUCCESS
 }
 
 // 20h: the sectors go to the start of bDataBuffer.
-fn read(disk: &[u8], body: &mut [u8], r: Request, a: Answer)
+fn read(disk: &[u8], body: &mut [u8], r: AtaCommand, a: Answer)
     requires { ⌜ Lent (now disk) (now body) (512 * r .count) ⌝ }
     requires { ⌜ r .lba + r .count ≤ 16 ⌝ }
     ensures { λ _. ⌜ now (body .exit) ≡ splice (replied (now (body .entry)) r a) 136 (sectors (now (disk .entry)) r) ⌝ }
@@ -85,7 +85,7 @@ fn read(disk: &[u8], body: &mut [u8], r: Request, a: Answer)
 }
 
 // ECh: what the disk says of itself goes to the start of bDataBuffer.
-fn describe(body: &mut [u8], r: Request, a: Answer)
+fn describe(body: &mut [u8], r: AtaCommand, a: Answer)
     requires { ⌜ 136 + 512 ≤ length (now body) ⌝ }
     ensures { λ _. ⌜ now (body .exit) ≡ splice (replied (now (body .entry)) r a) 136 identify ⌝ }
 {
@@ -94,7 +94,7 @@ fn describe(body: &mut [u8], r: Request, a: Answer)
 }
 
 // 30h: the sectors come from the start of bDataBuffer.
-fn write(disk: &mut [u8], body: &mut [u8], r: Request, a: Answer)
+fn write(disk: &mut [u8], body: &mut [u8], r: AtaCommand, a: Answer)
     requires { ⌜ Lent (now disk) (now body) (512 * r .count) ⌝ }
     requires { ⌜ r .lba + r .count ≤ 16 ⌝ }
     ensures { λ _. ⌜ now (disk .exit) ≡ splice (now (disk .entry)) (512 * r .lba) (part (now (body .entry)) 136 (512 * r .count)) ⌝ }

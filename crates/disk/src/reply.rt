@@ -1,6 +1,6 @@
 // What a reply holds: the Status structure, and the data of ECh.
 use crate::Answer;
-use crate::Request;
+use crate::AtaCommand;
 ghost use mathlib.Core.Path.{_≡_};
 ghost use Prim.Native.Nat.{_+_, _≤_};
 ghost use lib.ListN.{length};
@@ -32,7 +32,7 @@ fn status(body: &[u8], twelve: u8, a: Answer) -> [u8; 92]
     s
 }
 
-pub fn put_status(body: &mut [u8], r: Request, a: Answer)
+pub fn put_status(body: &mut [u8], r: AtaCommand, a: Answer)
     requires { ⌜ 136 ≤ length (now body) ⌝ }
     ensures { λ _. ⌜ now (body .exit) ≡ replied (now (body .entry)) r a ⌝ }
 {

@@ -54,6 +54,11 @@ pub either {ℓ κ} : {A : Type ℓ} (P : A → Type κ) (t : Bool) {a b : A} �
 either P true p q = p
 either P false p q = q
 
+-- the same, where each answer may use how the test came out
+pub either-by {ℓ κ} : {A : Type ℓ} (P : A → Type κ) (t : Bool) {a b : A} → (t ≡ true → P a) → (t ≡ false → P b) → P (cond t a b)
+either-by P true p q = p refl
+either-by P false p q = q refl
+
 -- a choice of which P holds, where P holds of only one of the answers
 pub came-then {ℓ κ} : {A : Type ℓ} (P : A → Type κ) (t : Bool) {a b : A} → (P b → ⊥) → P (cond t a b) → (t ≡ true) × P a
 came-then P true h p = (refl, p)

@@ -9,7 +9,7 @@
 --
 -- Its result is `first f n`, its invariant `(i ≤ n) × (first f n ≡ firstFrom f i (n - i))`, and each of its needs is
 -- `search first-loop`. Assumes nothing.
-use mathlib.Core.Path.{_≡_, sym, _∙_}
+use mathlib.Core.Path.{_≡_, refl, sym, _∙_}
 use mathlib.Core.Bool.{Bool, true, false, cond}
 use Prim.Native.Nat.{ℕ, zero, suc, _+_, _-_, _<_, _≤_}
 use native.Mathlib.Numerals.{add-one}
@@ -17,6 +17,7 @@ use native.Mathlib.Nat.{le-antisymm, sub-self, sub-zero}
 use native.Mathlib.Omega.{arith}
 use borrow.Author.Needs.{needs}
 use borrow.Author.Tests.{eq-eqb, ne-eqb}
+use Rattle.laws.specs.Choice.{by-bool}
 
 -- the first number from i on, of the k that stand there, of which f holds; past them where it holds of none
 unfoldable pub firstFrom : (ℕ → Bool) → ℕ → ℕ → ℕ
@@ -54,5 +55,34 @@ unfolding firstFrom
 first-none f n i h k e =
     let s : i ≡ n = le-antisymm h k in
     sym (e ∙ rw (s, sub-self))
+
+-- ---- what upper crates cite: a number that was found passes the test, and one that passes where none before it does is found
+
+pub from-at : (f : ℕ → Bool) (i k : ℕ) → firstFrom f i k < i + k → f (firstFrom f i k) ≡ true
+unfolding firstFrom
+from-at f i zero h = absurd (omega arith)
+from-at f i (suc k) h =
+    by-bool (λ (b : Bool). f i ≡ b → cond b i (firstFrom f (suc i) k) < i + suc k → f (cond b i (firstFrom f (suc i) k)) ≡ true)
+    (λ e l. e) (λ e l. from-at f (suc i) k (omega arith)) (f i) refl h
+
+pub first-at : (f : ℕ → Bool) (n : ℕ) → first f n < n → f (first f n) ≡ true
+first-at f n h = from-at f 0 n (omega arith)
+
+passed : (f : ℕ → Bool) (n i j : ℕ) → j ≤ i → i < n → ((m : ℕ) → m < i → f m ≡ false) → first f n ≡ firstFrom f j (n - j)
+passed f n i zero l h q = first-start f n
+passed f n i (suc j) l h q =
+    rw add-one at (first-miss f n j (omega arith) (passed f n i j (omega arith) h q) (q j (omega arith)))
+
+pub first-only : (f : ℕ → Bool) (n i : ℕ) → i < n → f i ≡ true → ((m : ℕ) → m < i → f m ≡ false) → first f n ≡ i
+first-only f n i h e q = sym (first-hit f n i h (passed f n i i (omega arith) h q) e)
+
+-- two tests that agree from i on, for k numbers
+from-same : (f g : ℕ → Bool) (i k : ℕ) → ((j : ℕ) → i ≤ j → j < i + k → f j ≡ g j) → firstFrom f i k ≡ firstFrom g i k
+unfolding firstFrom
+from-same f g i zero h = refl
+from-same f g i (suc k) h = rw (h i (omega arith) (omega arith), from-same f g (suc i) k (λ j l m. h j (omega arith) (omega arith)))
+
+pub first-same : (f g : ℕ → Bool) (n : ℕ) → ((i : ℕ) → i < n → f i ≡ g i) → first f n ≡ first g n
+first-same f g n h = from-same f g 0 n (λ j l m. h j (omega arith))
 
 pub ruleset first-loop = (first-start, first-hit, first-hit-by, first-miss, first-miss-by, first-none, eq-eqb, ne-eqb, needs)

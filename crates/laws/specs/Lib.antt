@@ -4,6 +4,7 @@ pub mod First
 pub mod Sum
 pub mod Fill
 pub mod Splice
+pub mod Flat
 pub mod Copy
 pub mod Cases
 pub mod Ascii

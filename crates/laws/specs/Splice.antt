@@ -1,11 +1,11 @@
 -- A part of a list, and a list with one part replaced: what a store into bytes does, and what a slice lent from the middle
 -- of another is. Assumes nothing.
 use mathlib.Core.Path.{_≡_, refl, sym, _∙_, ap}
-use mathlib.Core.List.{List, [], _∷_, _++_, append-assoc}
+use mathlib.Core.List.{List, [], _∷_, _++_, append-assoc, append-nil}
 use Prim.Native.Nat.{ℕ, zero, suc, _+_, _-_, _<_, _≤_}
 use native.Mathlib.Nat.{add-zero, sub-zero, zero-sub, suc-sub-suc, add-sub-cancel-left}
 use native.Mathlib.Omega.{arith}
-use lib.ListN.{length, getD, take, drop, length-append, length-drop, take-append-drop, List·getD-append}
+use lib.ListN.{length, getD, take, drop, drop-of-length-le, length-append, length-drop, take-append-drop, List·getD-append}
 use lib.Seq.{length-take-le, take-at, take-take, take-length, take-append-le, take-nil, drop-drop, drop-at, drop-append-add, getD-take, getD-drop, sets, sets-eq}
 
 module _ {A : Type 0} where
@@ -62,6 +62,15 @@ module _ {A : Type 0} where
   part-splice d at s h =
       ap (take (length s)) (drop-at (take at d) (s ++ drop (at + length s) d) at (length-take-le at d h))
       ∙ take-at s (drop (at + length s) d) (length s) refl
+
+  -- a part of what was spliced in
+  pub part-in : (d : List A) (at : ℕ) (s : List A) (i n : ℕ) → at ≤ length d → i + n ≤ length s → part (splice d at s) (at + i) n ≡ part s i n
+  part-in d at s i n h k = sym (part-part (splice d at s) at (length s) i n k) ∙ ap (λ (l : List A). part l i n) (part-splice d at s h)
+
+  -- a splice over the whole
+  pub splice-all : (d s l : List A) → length s ≡ length d → l ≡ splice d 0 s → l ≡ s
+  unfolding splice
+  splice-all d s l e p = p ∙ rw (drop-of-length-le d {i = 0 + length s} (omega arith), append-nil)
 
   pub get-in : (d : List A) (at : ℕ) (s : List A) (i : ℕ) (z : A) → at ≤ length d → i < length s → getD (splice d at s) (at + i) z ≡ getD s i z
   get-in d at s i z h k = sym (getD-part (splice d at s) at (length s) i z k) ∙ ap (λ (l : List A). getD l i z) (part-splice d at s h)

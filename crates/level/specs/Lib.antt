@@ -1,4 +1,5 @@
 pub mod Text
 pub mod Need
 pub mod Walk
+pub mod Bound
 pub mod Starred

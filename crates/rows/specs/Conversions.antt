@@ -8,27 +8,10 @@ use native.Mathlib.Numerals.{add-one}
 use native.Mathlib.Omega.{arith}
 use Rattle.laws.specs.Choice.{by-bool}
 use Rattle.laws.specs.All.{all-at}
-use Rattle.laws.specs.First.{first, firstFrom, first-start, first-hit, first-miss}
+use Rattle.laws.specs.First.{first, first-at, first-only}
 use Rattle.wire.specs.Same.{sameBytes, same-refl, same-eq}
 use Rattle.rows.specs.declared.Row.{Row}
 use Rattle.rows.specs.Row.{rowAt, apart, fresh, rowsHold, deviceIndex, osIndex}
-
--- ---- a first number that was found passes the test, and one that alone passes is the first
-
-from-at : (f : ℕ → Bool) (i k : ℕ) → firstFrom f i k < i + k → f (firstFrom f i k) ≡ true
-unfolding firstFrom
-from-at f i zero h = absurd (omega arith)
-from-at f i (suc k) h =
-    by-bool (λ (b : Bool). f i ≡ b → cond b i (firstFrom f (suc i) k) < i + suc k → f (cond b i (firstFrom f (suc i) k)) ≡ true)
-    (λ e l. e) (λ e l. from-at f (suc i) k (omega arith)) (f i) refl h
-
-passed : (f : ℕ → Bool) (n i j : ℕ) → j ≤ i → i < n → ((m : ℕ) → m < i → f m ≡ false) → first f n ≡ firstFrom f j (n - j)
-passed f n i zero l h q = first-start f n
-passed f n i (suc j) l h q =
-    rw add-one at (first-miss f n j (omega arith) (passed f n i j (omega arith) h q) (q j (omega arith)))
-
-only : (f : ℕ → Bool) (n i : ℕ) → i < n → f i ≡ true → ((m : ℕ) → m < i → f m ≡ false) → first f n ≡ i
-only f n i h e q = sym (first-hit f n i h (passed f n i i (omega arith) h q) e)
 
 -- ---- rows that hold share no key, be it the device or the OS bytes
 
@@ -51,12 +34,12 @@ module _ (key : Row → List ℕ) (rows : List Row) (a : ℕ) where
 
   key-found : (x : List ℕ) → first (keyed x) a < a → key (rowAt rows (first (keyed x) a)) ≡ x
   unfolding keyed
-  key-found x h = same-eq (key (rowAt rows (first (keyed x) a))) x (from-at (keyed x) 0 a (omega arith))
+  key-found x h = same-eq (key (rowAt rows (first (keyed x) a))) x (first-at (keyed x) a h)
 
   key-own : (i : ℕ) → i < a → ((j : ℕ) → j < i → sameBytes (key (rowAt rows j)) (key (rowAt rows i)) ≡ false)
       → first (keyed (key (rowAt rows i))) a ≡ i
   unfolding keyed
-  key-own i h q = only (keyed (key (rowAt rows i))) a i h (same-refl (key (rowAt rows i))) q
+  key-own i h q = first-only (keyed (key (rowAt rows i))) a i h (same-refl (key (rowAt rows i))) q
 
 -- ---- what upper crates cite, for rows of which the first a hold
 

@@ -1,24 +1,19 @@
 -- A row read out of bytes ("rows of 20 bytes", document 01, "Adapter file"). Assumes nothing.
-use mathlib.Core.Path.{_≡_, _∙_}
-use mathlib.Core.List.{List, append-nil}
+use mathlib.Core.Path.{_≡_}
+use mathlib.Core.List.{List}
 use Prim.Native.Nat.{ℕ, _+_, _≤_}
 use native.Mathlib.Omega.{arith}
-use lib.ListN.{length, replicate, drop-of-length-le}
-use Rattle.laws.specs.Splice.{part, splice, length-part, part-part}
+use lib.ListN.{length, replicate}
+use Rattle.laws.specs.Splice.{part, splice, length-part, part-part, splice-all}
 use Rattle.rows.specs.declared.Row.{Row}
 use Rattle.rows.specs.Row.{rowOf}
-
--- a copy over a whole array
-copied : (d₀ s d : List ℕ) → length s ≡ length d₀ → d ≡ splice d₀ 0 s → d ≡ s
-unfolding splice
-copied d₀ s d e p = p ∙ rw (drop-of-length-le d₀ {i = 0 + length s} (omega arith), append-nil)
 
 pub row-read : (bytes : List ℕ) (at : ℕ) (d o : List ℕ) → at + 20 ≤ length bytes
     → d ≡ splice (replicate 16 0) 0 (part bytes at 16) → o ≡ splice (replicate 4 0) 0 (part bytes (at + 16) 4)
     → _≡_ {A = Row} (record { device = d; os = o }) (rowOf bytes at)
 unfolding rowOf
 row-read bytes at d o h p q =
-    rw (copied (replicate 16 0) (part bytes at 16) d (length-part bytes at 16 (omega arith)) p, copied (replicate 4 0) (part bytes (at + 16) 4) o (length-part bytes (at + 16) 4 (omega arith)) q)
+    rw (splice-all (replicate 16 0) (part bytes at 16) d (length-part bytes at 16 (omega arith)) p, splice-all (replicate 4 0) (part bytes (at + 16) 4) o (length-part bytes (at + 16) 4 (omega arith)) q)
 
 -- what upper crates cite: a row in a part is that in the whole, and how long its fields are
 pub row-part : (bytes : List ℕ) (from n at : ℕ) → at + 20 ≤ n → rowOf (part bytes from n) at ≡ rowOf bytes (from + at)

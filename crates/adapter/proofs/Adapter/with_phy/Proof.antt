@@ -8,4 +8,4 @@ pub with-phy-spec : {M : Type 1} → statement M
 unfolding withPhy
 with-phy-spec =
     tie.close
-    (tie.spec (λ c. search needs) (λ c. search needs) (λ c. cc))
+    (tie.spec (λ c. search needs) (λ c. search needs) (λ c. search needs) (λ c. cc))

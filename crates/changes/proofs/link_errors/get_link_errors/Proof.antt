@@ -1,0 +1,13 @@
+-- `changes::link_errors::get_link_errors` meets its contract. Assumes nothing.
+use borrow.Author.Needs.{needs}
+use Rattle.changes.specs.LinkErrors.{linkErrors}
+use Rattle.laws.specs.Choice.{picks}
+use Rattle.changes.proofs.link_errors.get_link_errors.Statement.{statement}
+use Rattle.changes.proofs.link_errors.get_link_errors.Tie as tie
+
+pub get-link-errors-spec : {M : Type 1} → statement M
+unfolding linkErrors
+get-link-errors-spec =
+    tie.close
+    (tie.spec (λ c. search needs) (λ c. search needs) (λ c. search needs) (λ c. search needs) (λ c κs. search needs)
+    (λ c. search needs) (λ c. search picks) (λ c. search picks) (λ c. search picks))

@@ -1,0 +1,9 @@
+-- `changes::link_errors::report` meets its contract. Assumes nothing.
+use borrow.Author.Needs.{needs}
+use Rattle.changes.proofs.link_errors.report.Statement.{statement}
+use Rattle.changes.proofs.link_errors.report.Tie as tie
+
+pub report-spec : {M : Type 1} → statement M
+report-spec =
+    tie.close
+    (tie.spec (λ c κs. search needs) (λ c κs. search needs) (λ c κs. search needs) (λ c. search needs) (λ c. cc))

@@ -1,0 +1,11 @@
+-- `changes::set_phy_info::parse` meets its contract. Assumes nothing.
+use borrow.Author.Needs.{needs}
+use Rattle.changes.specs.SetPhyInfo.{asked}
+use Rattle.changes.proofs.set_phy_info.parse.Statement.{statement}
+use Rattle.changes.proofs.set_phy_info.parse.Tie as tie
+
+pub parse-spec : {M : Type 1} → statement M
+unfolding asked
+parse-spec =
+    tie.close
+    (tie.spec (λ c. search needs) (λ c. search needs) (λ c. search needs) (λ c. search needs) (λ c. cc))

@@ -1,0 +1,12 @@
+-- `changes::set_phy_info::set_phy` meets its contract. Assumes nothing.
+use borrow.Author.Needs.{needs}
+use Rattle.changes.specs.SetPhyInfo.{setPhy}
+use Rattle.changes.proofs.set_phy_info.set_phy.Statement.{statement}
+use Rattle.changes.proofs.set_phy_info.set_phy.Tie as tie
+
+pub set-phy-spec : {M : Type 1} → statement M
+unfolding setPhy
+set-phy-spec =
+    tie.close
+    (tie.spec (λ c κs. search needs) (λ c κs. search needs) (λ c κs. search needs) (λ c κs. search needs)
+    (λ c κs. search needs) (λ c. cc))

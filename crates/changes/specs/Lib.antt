@@ -1,0 +1,4 @@
+pub mod Changed
+pub mod SetPhyInfo
+pub mod LinkErrors
+pub mod Stores

@@ -1,0 +1,23 @@
+-- What the proofs of this crate cite. Assumes nothing.
+use mathlib.Core.Path.{_≡_, refl, sym, _∙_}
+use mathlib.Core.Bool.{Bool, true, _&&_}
+use Prim.Native.Nat.{ℕ, _<_}
+use Rattle.laws.specs.Choice.{both-right}
+use Rattle.phy.specs.declared.Phy.{Phy}
+use Rattle.fields.specs.Rules.{rangeHolds, range-below}
+use Rattle.changes.specs.declared.Setting.{Setting}
+use Rattle.changes.specs.SetPhyInfo.{programmable, ratesHold}
+
+-- rates that passed fit the programmed half of a byte
+module _ (phy : Phy) (s : Setting) (minimum maximum : ℕ) (r : Bool) (e : r ≡ ratesHold phy s minimum maximum) (q : r ≡ true) where
+  below : (minimum < 16) × (maximum < 16)
+  unfolding ratesHold
+  below =
+      range-below phy minimum maximum true
+      (sym (both-right (programmable (s .minimum) && programmable (s .maximum)) (rangeHolds phy minimum maximum) (sym e ∙ q))) refl
+
+  pub minimum-below : minimum < 16
+  minimum-below = below .0
+
+  pub maximum-below : maximum < 16
+  maximum-below = below .1

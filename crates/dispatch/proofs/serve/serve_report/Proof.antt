@@ -1,0 +1,9 @@
+-- `dispatch::serve::serve_report` meets its contract. Assumes nothing.
+use borrow.Author.Needs.{needs}
+use Rattle.dispatch.proofs.serve.serve_report.Statement.{statement}
+use Rattle.dispatch.proofs.serve.serve_report.Tie as tie
+
+pub serve-report-spec : {M : Type 1} → statement M
+serve-report-spec =
+    tie.close
+    (tie.spec (λ c κs. search needs) (λ c. search needs) (λ c. cc))

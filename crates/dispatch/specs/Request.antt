@@ -1,0 +1,74 @@
+-- One request (document 01, "Request", "From the input", "From the state"): the call's number, the state, the medium and the buffer
+-- that it leaves, after refusals as after success. Assumes nothing.
+use mathlib.Core.Bool.{Bool, cond, _&&_, not}
+use mathlib.Core.List.{List, _++_}
+use Prim.Native.Nat.{ℕ}
+use lib.Dec.{eqb, ltb}
+use lib.ListN.{length, take}
+use Rattle.laws.specs.Splice.{splice}
+use Rattle.codes.specs.Codes.{success, shortBuffer, mediumLength, badState}
+use Rattle.wire.specs.Number.{bytes}
+use Rattle.level.specs.declared.Level.{Level}
+use Rattle.adapter.specs.declared.Adapter.{Adapter}
+use Rattle.changes.specs.declared.Served.{Served as Result}
+use Rattle.state.specs.declared.State.{State}
+use Rattle.state.specs.State.{stateHolds}
+use Rattle.state.specs.Open.{mediumSize}
+use Rattle.header.specs.Header.{control, bodyOf, headerCode, above, accessCode}
+use Rattle.dispatch.specs.declared.Handled.{Handled}
+use Rattle.dispatch.specs.Serve.{Served, served}
+
+-- what a call leaves
+pub record Outcome : Type 0 where
+  pub call : ℕ
+  pub state : State
+  pub medium : List ℕ
+  pub buffer : List ℕ
+
+abbrev pub outcome : Handled → List ℕ → List ℕ → Outcome
+outcome h medium buffer = record { call = h .call; state = h .state; medium = medium; buffer = buffer }
+
+-- "with any other [number], buffer, state and medium are untouched"
+abbrev pub untouched : ℕ → State → List ℕ → List ℕ → Outcome
+untouched call s medium buffer = record { call = call; state = s; medium = medium; buffer = buffer }
+
+-- the return code, the tables and counters, the disks, and the buffer before its return code is written
+pub record Answer : Type 0 where
+  pub code : ℕ
+  pub adapter : Adapter
+  pub medium : List ℕ
+  pub buffer : List ℕ
+
+abbrev pub answer : Result → List ℕ → List ℕ → Answer
+answer s medium buffer = record { code = s .code; adapter = s .adapter; medium = medium; buffer = buffer }
+
+-- the body back behind its header
+abbrev pub inBuffer : List ℕ → Served → Answer
+inBuffer buffer s = record { code = s .code; adapter = s .adapter; medium = s .medium; buffer = take 28 buffer ++ s .body }
+
+-- "A refused request changes the four bytes of its return code": nothing else yet
+abbrev pub refused : ℕ → Adapter → List ℕ → List ℕ → Answer
+refused code ad medium buffer = record { code = code; adapter = ad; medium = medium; buffer = buffer }
+
+-- "level; then the code's own checks"
+unfoldable pub answered : Adapter → List ℕ → List ℕ → ℕ → Answer
+answered ad medium buffer code =
+    cond (eqb code success) (inBuffer buffer (served ad medium (control buffer) (bodyOf buffer))) (refused code ad medium buffer)
+
+-- "the return code is bytes 20–23", and "the call's number is 0 when a return code is written"
+abbrev pub replied : Level → Answer → Outcome
+replied level a =
+    record { call = 0; state = record { level = level; adapter = a .adapter }; medium = a .medium; buffer = splice (a .buffer) 20 (bytes 4 (a .code)) }
+
+-- a buffer with a header
+unfoldable pub answeredAt : State → List ℕ → List ℕ → Outcome
+answeredAt s medium buffer = replied (s .level) (answered (s .adapter) medium buffer (accessCode (s .level) buffer))
+
+-- "Checks, in order: state; medium length; buffer of 28 bytes; .."
+unfoldable pub handled : State → List ℕ → List ℕ → Outcome
+handled s medium buffer =
+    cond (stateHolds s)
+    (cond (eqb (mediumSize (s .adapter)) (length medium))
+    (cond (ltb (length buffer) 28) (untouched shortBuffer s medium buffer) (answeredAt s medium buffer))
+    (untouched mediumLength s medium buffer))
+    (untouched badState s medium buffer)

@@ -1,0 +1,15 @@
+// The two calls of the simulator (document 01, "A SAS host adapter as a console sees it"): opening an adapter, and handling one
+// request. Each is determined by equation from its inputs, after refusals as after success, and neither has a `requires`.
+mod handle;
+mod serve;
+
+pub use handle::request;
+pub use state::Opened;
+pub use state::State;
+pub use state::open;
+
+// What a call gives back: its number and the state.
+pub struct Handled {
+    pub call: u32,
+    pub state: State,
+}

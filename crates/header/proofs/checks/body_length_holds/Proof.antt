@@ -1,0 +1,11 @@
+-- `header::checks::body_length_holds` meets its contract. Assumes nothing.
+use borrow.Author.Needs.{needs}
+use Rattle.header.specs.Laws.{length-by}
+use Rattle.header.proofs.checks.body_length_holds.Statement.{statement}
+use Rattle.header.proofs.checks.body_length_holds.Tie as tie
+
+pub body-length-holds-spec : {M : Type 1} → statement M
+body-length-holds-spec =
+    tie.close
+    (tie.spec (λ c κs. search needs) (λ c. search needs) (λ c. search needs) (λ c. search needs) (λ c κs. search needs)
+    (λ c. search (length-by, needs)))

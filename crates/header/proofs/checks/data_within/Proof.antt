@@ -1,0 +1,9 @@
+-- `header::checks::data_within` meets its contract. Assumes nothing.
+use borrow.Author.Needs.{needs}
+use Rattle.header.proofs.checks.data_within.Statement.{statement}
+use Rattle.header.proofs.checks.data_within.Tie as tie
+
+pub data-within-spec : {M : Type 1} → statement M
+data-within-spec =
+    tie.close
+    (tie.spec (λ c κs. search needs) (λ c. search needs) (λ c. search needs) (λ c. cc))

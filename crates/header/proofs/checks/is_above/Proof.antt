@@ -1,0 +1,11 @@
+-- `header::checks::is_above` meets its contract. Assumes nothing.
+use borrow.Author.Needs.{needs}
+use Rattle.header.specs.Laws.{room-by, above-by}
+use Rattle.header.proofs.checks.is_above.Statement.{statement}
+use Rattle.header.proofs.checks.is_above.Tie as tie
+
+pub is-above-spec : {M : Type 1} → statement M
+is-above-spec =
+    tie.close
+    (tie.spec (λ c κs. search needs) (λ c. search needs) (λ c. search needs) (λ c. search needs)
+    (λ c κs. search (room-by, needs)) (λ c. search (above-by, needs)))

@@ -1,0 +1,13 @@
+-- `header::table::data_size` meets its contract. Assumes nothing.
+use borrow.Author.Needs.{needs}
+use Rattle.header.specs.Laws.{passthrough-room}
+use Rattle.header.specs.Table.{dataSize}
+use Rattle.laws.specs.Choice.{picks}
+use Rattle.header.proofs.table.data_size.Statement.{statement}
+use Rattle.header.proofs.table.data_size.Tie as tie
+
+pub data-size-spec : {M : Type 1} → statement M
+unfolding dataSize
+data-size-spec =
+    tie.close
+    (tie.spec (λ c κs. search (passthrough-room, needs)) (λ c. search picks) (λ c. search picks))

@@ -1,0 +1,14 @@
+-- `header::table::need` meets its contract. Assumes nothing.
+use borrow.Author.Needs.{needs}
+use Rattle.header.specs.Laws.{passthrough-room}
+use Rattle.header.specs.Table.{need}
+use Rattle.laws.specs.Choice.{picks}
+use Rattle.header.proofs.table.need.Statement.{statement}
+use Rattle.header.proofs.table.need.Tie as tie
+
+pub need-spec : {M : Type 1} → statement M
+unfolding need
+need-spec =
+    tie.close
+    (tie.spec (λ c. search picks) (λ c. search (passthrough-room, needs)) (λ c κs. search needs) (λ c. search picks)
+    (λ c. search picks))

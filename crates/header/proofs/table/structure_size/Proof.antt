@@ -1,0 +1,13 @@
+-- `header::table::structure_size` meets its contract. Assumes nothing.
+use Rattle.header.specs.Table.{structureSize}
+use Rattle.laws.specs.Choice.{picks}
+use Rattle.header.proofs.table.structure_size.Statement.{statement}
+use Rattle.header.proofs.table.structure_size.Tie as tie
+
+pub structure-size-spec : {M : Type 1} → statement M
+unfolding structureSize
+structure-size-spec =
+    tie.close
+    (tie.spec (λ c. search picks depth 14) (λ c. search picks depth 14) (λ c. search picks depth 14)
+    (λ c. search picks depth 14) (λ c. search picks depth 14) (λ c. search picks depth 14) (λ c. search picks depth 14)
+    (λ c. search picks depth 14) (λ c. search picks depth 14))

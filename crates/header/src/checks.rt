@@ -1,0 +1,142 @@
+// The checks on a header, in document 01's order.
+use crate::table::data_size;
+use crate::table::is_all;
+use crate::table::need;
+use crate::table::structure_size;
+use level::Level;
+ghost use mathlib.Core.Path.{_≡_};
+ghost use Prim.Native.Nat.{_+_, _≤_};
+ghost use lib.Dec.{eqb, leb};
+ghost use lib.ListN.{length, drop};
+ghost use Rattle.header.specs.Table.{structureSize, dataSize};
+ghost use Rattle.header.specs.Header.{headerLength, control, bodyLength, bodyOf, signatureHolds, lengthHolds, codeChecked, headerCode, above, accessCode};
+
+// The control code of a request.
+pub fn control_code(buffer: &[u8]) -> u32
+    requires { ⌜ 28 ≤ length (now buffer) ⌝ }
+    ensures { λ r. ⌜ r ≡ control (now (buffer .entry)) ⌝ }
+{
+    wire::read32(buffer, 16)
+}
+
+fn header_length(buffer: &[u8]) -> u32
+    requires { ⌜ 28 ≤ length (now buffer) ⌝ }
+    ensures { λ r. ⌜ r ≡ headerLength (now (buffer .entry)) ⌝ }
+{
+    wire::read32(buffer, 0)
+}
+
+fn signature_holds(control: u32, buffer: &[u8]) -> bool
+    ensures { λ r. ⌜ r ≡ signatureHolds control (now (buffer .entry)) ⌝ }
+{
+    if is_all(control) {
+        return wire::same_at(buffer, 4, b"CSMIALL\0");
+    }
+    wire::same_at(buffer, 4, b"CSMISAS\0")
+}
+
+// The structure and its data are within n bytes.
+fn data_within(control: u32, size: u32, n: u32, body: &[u8]) -> bool
+    requires { ⌜ size ≡ structureSize control ⌝ }
+    requires { ⌜ structureSize control ≤ length (now body) ⌝ }
+    ensures { λ r. ⌜ r ≡ leb (size + dataSize control (now (body .entry))) n ⌝ }
+{
+    size as u64 + data_size(control, body) as u64 <= n as u64
+}
+
+fn within(control: u32, size: u32, n: u32, body: &[u8]) -> bool
+    requires { ⌜ size ≡ structureSize control ⌝ }
+    ensures { λ r. ⌜ r ≡ lengthHolds control n (now (body .entry)) ⌝ }
+{
+    if n < size {
+        return false;
+    }
+    if body.len() < n as usize {
+        return false;
+    }
+    data_within(control, size, n, body)
+}
+
+fn length_holds(control: u32, n: u32, body: &[u8]) -> bool
+    ensures { λ r. ⌜ r ≡ lengthHolds control n (now (body .entry)) ⌝ }
+{
+    within(control, structure_size(control), n, body)
+}
+
+fn body_length_holds(control: u32, buffer: &[u8]) -> bool
+    requires { ⌜ 28 ≤ length (now buffer) ⌝ }
+    ensures { λ r. ⌜ r ≡ lengthHolds control (bodyLength (now (buffer .entry))) (bodyOf (now (buffer .entry))) ⌝ }
+{
+    length_holds(control, wire::read32(buffer, 24), &buffer[28..])
+}
+
+fn is_unknown(control: u32) -> bool
+    ensures { λ r. ⌜ r ≡ eqb (structureSize control) 0 ⌝ }
+{
+    structure_size(control) == 0
+}
+
+fn check_code(control: u32, buffer: &[u8]) -> u32
+    requires { ⌜ 28 ≤ length (now buffer) ⌝ }
+    ensures { λ r. ⌜ r ≡ codeChecked control (now (buffer .entry)) ⌝ }
+{
+    if is_unknown(control) {
+        return codes::BAD_CONTROL_CODE;
+    }
+    if signature_holds(control, buffer) {
+        if body_length_holds(control, buffer) {
+            return codes::SUCCESS;
+        }
+        return codes::INVALID_PARAMETER;
+    }
+    codes::BAD_CONTROL_CODE
+}
+
+fn check_control(buffer: &[u8]) -> u32
+    requires { ⌜ 28 ≤ length (now buffer) ⌝ }
+    ensures { λ r. ⌜ r ≡ codeChecked (control (now (buffer .entry))) (now (buffer .entry)) ⌝ }
+{
+    check_code(control_code(buffer), buffer)
+}
+
+// The return code of the first check before the level that fails, or 0.
+fn header_code(buffer: &[u8]) -> u32
+    requires { ⌜ 28 ≤ length (now buffer) ⌝ }
+    ensures { λ r. ⌜ r ≡ headerCode (now (buffer .entry)) ⌝ }
+{
+    if header_length(buffer) == 28 {
+        return check_control(buffer);
+    }
+    codes::INVALID_PARAMETER
+}
+
+fn is_above(level: Level, buffer: &[u8]) -> bool
+    requires { ⌜ 28 ≤ length (now buffer) ⌝ }
+    requires { ⌜ structureSize (control (now buffer)) ≤ length (bodyOf (now buffer)) ⌝ }
+    ensures { λ r. ⌜ r ≡ above level (now (buffer .entry)) ⌝ }
+{
+    let need = need(control_code(buffer), &buffer[28..]);
+    level.0 < need.0
+}
+
+fn access(level: Level, code: u32, buffer: &[u8]) -> u32
+    requires { ⌜ 28 ≤ length (now buffer) ⌝ }
+    requires { ⌜ code ≡ headerCode (now buffer) ⌝ }
+    ensures { λ r. ⌜ r ≡ accessCode level (now (buffer .entry)) ⌝ }
+{
+    if code == codes::SUCCESS {
+        if is_above(level, buffer) {
+            return codes::WRITE_ATTEMPTED;
+        }
+        return codes::SUCCESS;
+    }
+    code
+}
+
+// The return code of the first check up to the level that fails, or 0.
+pub fn access_code(level: Level, buffer: &[u8]) -> u32
+    requires { ⌜ 28 ≤ length (now buffer) ⌝ }
+    ensures { λ r. ⌜ r ≡ accessCode level (now (buffer .entry)) ⌝ }
+{
+    access(level, header_code(buffer), buffer)
+}

@@ -1,0 +1,6 @@
+// The header of a request and the checks on it, up to the level (document 01, "Request").
+mod checks;
+mod table;
+
+pub use checks::access_code;
+pub use checks::control_code;

@@ -1,0 +1,69 @@
+// What each control code asks of a request.
+use level::Level;
+ghost use mathlib.Core.Path.{_≡_};
+ghost use Prim.Native.Nat.{_≤_};
+ghost use lib.ListN.{length};
+ghost use Rattle.header.specs.Table.{structureSize, dataSize, isAll, need};
+
+// The size of a code's structure without the header, and 0 of a code that is unknown.
+pub fn structure_size(control: u32) -> u32
+    ensures { λ r. ⌜ r ≡ structureSize control ⌝ }
+{
+    if control == codes::GET_DRIVER_INFO {
+        return 174;
+    }
+    if control == codes::GET_PHY_INFO {
+        return 2052;
+    }
+    if control == codes::SET_PHY_INFO {
+        return 8;
+    }
+    if control == codes::GET_LINK_ERRORS {
+        return 20;
+    }
+    if control == codes::STP_PASSTHRU {
+        return 136;
+    }
+    if control == codes::GET_SATA_SIGNATURE {
+        return 24;
+    }
+    if control == codes::GET_SCSI_ADDRESS {
+        return 20;
+    }
+    if control == codes::GET_DEVICE_ADDRESS {
+        return 20;
+    }
+    0
+}
+
+// The bytes behind a code's structure that its body says it has.
+pub fn data_size(control: u32, body: &[u8]) -> u32
+    requires { ⌜ structureSize control ≤ length (now body) ⌝ }
+    ensures { λ r. ⌜ r ≡ dataSize control (now (body .entry)) ⌝ }
+{
+    if control == codes::STP_PASSTHRU {
+        return wire::read32(body, 40);
+    }
+    0
+}
+
+// The signature is CSMIALL, and not CSMISAS.
+pub fn is_all(control: u32) -> bool
+    ensures { λ r. ⌜ r ≡ isAll control ⌝ }
+{
+    control == codes::GET_DRIVER_INFO
+}
+
+// The lowest level that may send this.
+pub fn need(control: u32, body: &[u8]) -> Level
+    requires { ⌜ structureSize control ≤ length (now body) ⌝ }
+    ensures { λ r. ⌜ r ≡ need control (now (body .entry)) ⌝ }
+{
+    if control == codes::SET_PHY_INFO {
+        return Level::FULL;
+    }
+    if control == codes::STP_PASSTHRU {
+        return Level::from_need(body[18]);
+    }
+    Level::RESTRICTED
+}

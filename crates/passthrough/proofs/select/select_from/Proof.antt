@@ -1,0 +1,10 @@
+-- `passthrough::select::select_from` meets its contract. Assumes nothing.
+use borrow.Author.Needs.{needs}
+use Rattle.passthrough.specs.Laws.{selection-past}
+use Rattle.passthrough.proofs.select.select_from.Statement.{statement}
+use Rattle.passthrough.proofs.select.select_from.Tie as tie
+
+pub select-from-spec : {M : Type 1} → statement M
+select-from-spec =
+    tie.close
+    (tie.spec (λ c κs. search needs) (λ c. search needs) (λ c κs. search needs) (λ c. search (selection-past, needs)))

@@ -1,0 +1,11 @@
+-- `passthrough::select::select_phy` meets its contract. Assumes nothing.
+use borrow.Author.Needs.{needs}
+use Rattle.passthrough.specs.Select.{selectBy}
+use Rattle.passthrough.proofs.select.select_phy.Statement.{statement}
+use Rattle.passthrough.proofs.select.select_phy.Tie as tie
+
+pub select-phy-spec : {M : Type 1} → statement M
+unfolding selectBy
+select-phy-spec =
+    tie.close
+    (tie.spec (λ c κs. search needs) (λ c κs. search needs) (λ c. cc))

@@ -1,0 +1,100 @@
+// Code 25, STP passthrough.
+use crate::Selection;
+use crate::select_phy;
+use adapter::Adapter;
+use phy::Phy;
+use phy::PhyIdentifier;
+use phy::PortIdentifier;
+ghost use mathlib.Core.Path.{_≡_};
+ghost use Prim.Native.Nat.{_+_, _*_, _<_, _≤_};
+ghost use lib.ListN.{length};
+ghost use Rattle.disk.specs.Disk.{dataLength};
+ghost use Rattle.adapter.specs.Adapter.{phyIn};
+ghost use Rattle.passthrough.specs.Select.{selectIn};
+ghost use Rattle.passthrough.specs.Passthrough.{passed, phyAsked, portAsked, rateOf, destinationOf, formHolds, connected, onDisk, connectedTo, passedTo, passthrough};
+
+// A register host-to-device FIS.
+const COMMAND_FIS: u8 = 0x27;
+
+fn is_form(type_byte: u8, rate: u8) -> bool
+    ensures { λ r. ⌜ r ≡ formHolds «type_byte» rate ⌝ }
+{
+    (type_byte == COMMAND_FIS) & ((rate == 0) | fields::is_rate(rate))
+}
+
+// The phy's link is up at the connection rate, and the SATA device at its end has the destination's address.
+fn reaches(phy: Phy, rate: u8, destination: &[u8]) -> bool
+    ensures { λ r. ⌜ r ≡ connected phy rate (now (destination .entry)) ⌝ }
+{
+    let negotiated = phy.negotiated();
+    phy.is_sata()
+        & fields::is_rate(negotiated)
+        & (rate <= negotiated)
+        & phy.attached_is(destination)
+}
+
+fn is_connected(adapter: Adapter, n: PhyIdentifier, body: &[u8]) -> bool
+    requires { ⌜ n .0 < 32 ⌝ }
+    requires { ⌜ 136 ≤ length (now body) ⌝ }
+    ensures { λ r. ⌜ r ≡ connected (phyIn adapter (n .0)) (rateOf (now (body .entry))) (destinationOf (now (body .entry))) ⌝ }
+{
+    reaches(adapter.phy(n), body[2], &body[4..12])
+}
+
+// The phy's disk is lent to the command as a part of the medium.
+fn on_disk(medium: &mut [u8], n: PhyIdentifier, body: &mut [u8]) -> u32
+    requires { ⌜ 8192 * n .0 + 8192 ≤ length (now medium) ⌝ }
+    requires { ⌜ 136 + dataLength (now body) ≤ length (now body) ⌝ }
+    ensures { λ code. ⌜ passed code (now (medium .exit)) (now (body .exit)) ≡ onDisk (now (medium .entry)) (n .0) (now (body .entry)) ⌝ }
+{
+    let from = 8192 * n.0 as usize;
+    disk::command(&mut medium[from..from + 8192], body)
+}
+
+fn connect(adapter: Adapter, medium: &mut [u8], body: &mut [u8], n: PhyIdentifier) -> u32
+    requires { ⌜ n .0 < 32 ⌝ }
+    requires { ⌜ 8192 * n .0 + 8192 ≤ length (now medium) ⌝ }
+    requires { ⌜ 136 + dataLength (now body) ≤ length (now body) ⌝ }
+    ensures { λ code. ⌜ passed code (now (medium .exit)) (now (body .exit)) ≡ connectedTo adapter (now (medium .entry)) (now (body .entry)) (n .0) ⌝ }
+{
+    if is_connected(adapter, n, body) {
+        return on_disk(medium, n, body);
+    }
+    codes::CONNECTION_FAILED
+}
+
+fn pass_to(adapter: Adapter, medium: &mut [u8], body: &mut [u8], s: Selection) -> u32
+    requires { ⌜ adapter .«phy_count» ≤ 32 ⌝ }
+    requires { ⌜ length (now medium) ≡ 8192 * adapter .«phy_count» ⌝ }
+    requires { ⌜ 136 + dataLength (now body) ≤ length (now body) ⌝ }
+    requires { ⌜ s ≡ selectIn adapter (phyAsked (now body)) (portAsked (now body)) ⌝ }
+    ensures { λ code. ⌜ passed code (now (medium .exit)) (now (body .exit)) ≡ passedTo adapter (now (medium .entry)) (now (body .entry)) s ⌝ }
+{
+    if s.code == codes::SUCCESS {
+        return connect(adapter, medium, body, s.phy);
+    }
+    s.code
+}
+
+fn pass_selected(adapter: Adapter, medium: &mut [u8], body: &mut [u8]) -> u32
+    requires { ⌜ adapter .«phy_count» ≤ 32 ⌝ }
+    requires { ⌜ length (now medium) ≡ 8192 * adapter .«phy_count» ⌝ }
+    requires { ⌜ 136 + dataLength (now body) ≤ length (now body) ⌝ }
+    ensures { λ code. ⌜ passed code (now (medium .exit)) (now (body .exit)) ≡ passedTo adapter (now (medium .entry)) (now (body .entry)) (selectIn adapter (phyAsked (now (body .entry))) (portAsked (now (body .entry)))) ⌝ }
+{
+    let s = select_phy(adapter, PhyIdentifier(body[0]), PortIdentifier(body[1]));
+    pass_to(adapter, medium, body, s)
+}
+
+// Selects a phy, and sends the command to its disk if it is connected.
+pub fn pass_through(adapter: Adapter, medium: &mut [u8], body: &mut [u8]) -> u32
+    requires { ⌜ adapter .«phy_count» ≤ 32 ⌝ }
+    requires { ⌜ length (now medium) ≡ 8192 * adapter .«phy_count» ⌝ }
+    requires { ⌜ 136 + dataLength (now body) ≤ length (now body) ⌝ }
+    ensures { λ code. ⌜ passed code (now (medium .exit)) (now (body .exit)) ≡ passthrough adapter (now (medium .entry)) (now (body .entry)) ⌝ }
+{
+    if is_form(body[16], body[2]) {
+        return pass_selected(adapter, medium, body);
+    }
+    codes::INVALID_PARAMETER
+}

@@ -1,0 +1,18 @@
+-- Code 28, get device address (6.15). Assumes nothing.
+use mathlib.Core.Bool.{cond}
+use mathlib.Core.List.{List}
+use Prim.Native.Nat.{ℕ}
+use lib.Dec.{ltb}
+use Rattle.laws.specs.Splice.{part, splice}
+use Rattle.codes.specs.Codes.{noDeviceAddress}
+use Rattle.rows.specs.declared.Row.{Row}
+use Rattle.rows.specs.Row.{rowAt, osIndex}
+use Rattle.reports.specs.Report.{Report, report, filled}
+
+-- the row found, where one of a was
+unfoldable pub deviceBytes : List Row → ℕ → ℕ → List ℕ → Report
+deviceBytes rows a i body = cond (ltb i a) (filled (splice body 4 (rowAt rows i .device))) (report noDeviceAddress body)
+
+-- "28: the other way": the row with those four OS bytes gives the SAS address and LUN
+unfoldable pub deviceAddress : List Row → ℕ → List ℕ → Report
+deviceAddress rows a body = deviceBytes rows a (osIndex rows a (part body 0 4)) body

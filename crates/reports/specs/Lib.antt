@@ -1,0 +1,6 @@
+pub mod Report
+pub mod DriverInfo
+pub mod PhyInfo
+pub mod Signature
+pub mod ScsiAddress
+pub mod DeviceAddress

@@ -1,0 +1,18 @@
+-- Code 27, get SCSI address (6.14). Assumes nothing.
+use mathlib.Core.Bool.{cond}
+use mathlib.Core.List.{List}
+use Prim.Native.Nat.{ℕ}
+use lib.Dec.{ltb}
+use Rattle.laws.specs.Splice.{part, splice}
+use Rattle.codes.specs.Codes.{noScsiAddress}
+use Rattle.rows.specs.declared.Row.{Row}
+use Rattle.rows.specs.Row.{rowAt, deviceIndex}
+use Rattle.reports.specs.Report.{Report, report, filled}
+
+-- the row found, where one of a was
+unfoldable pub osBytes : List Row → ℕ → ℕ → List ℕ → Report
+osBytes rows a i body = cond (ltb i a) (filled (splice body 16 (rowAt rows i .os))) (report noScsiAddress body)
+
+-- "27: the row with that SAS address and LUN gives the four OS bytes"
+unfoldable pub scsiAddress : List Row → ℕ → List ℕ → Report
+scsiAddress rows a body = osBytes rows a (deviceIndex rows a (part body 0 16)) body

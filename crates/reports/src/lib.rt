@@ -1,0 +1,13 @@
+// The requests that only report (document 01, "Request", codes 1, 20, 26, 27 and 28). Each works on the body of its request, the
+// buffer after its header, gives the return code, and changes nothing else.
+mod device_address;
+mod driver_info;
+mod phy_info;
+mod scsi_address;
+mod signature;
+
+pub use device_address::get_device_address;
+pub use driver_info::get_driver_info;
+pub use phy_info::get_phy_info;
+pub use scsi_address::get_scsi_address;
+pub use signature::get_signature;

@@ -1,0 +1,15 @@
+-- `state::rules::adapter_holds` meets its contract. Assumes nothing.
+use borrow.Author.Needs.{needs}
+use Rattle.adapter.specs.Store.{phys-bound, rows-bound}
+use Rattle.laws.specs.Choice.{flag}
+use Rattle.state.specs.Laws.{and-then, and-not}
+use Rattle.state.specs.State.{adapterHolds}
+use Rattle.state.proofs.rules.adapter_holds.Statement.{statement}
+use Rattle.state.proofs.rules.adapter_holds.Tie as tie
+
+pub adapter-holds-spec : {M : Type 1} → statement M
+unfolding adapterHolds
+adapter-holds-spec =
+    tie.close
+    (tie.spec (λ c κs. search needs) (λ c κs. search (phys-bound, rows-bound, needs))
+    (λ c. search (and-then, and-not, flag)) (λ c. search (and-then, and-not, flag)))
