@@ -1,0 +1,62 @@
+-- Demand 3, in one piece (document 01, "Two runs and the last writer"). Its proof is `claim` in Demand3.antt. Assumes nothing.
+use mathlib.Core.Path.{_≡_}
+use mathlib.Core.Bool.{Bool, true}
+use mathlib.Core.List.{List}
+use Prim.Native.Nat.{ℕ, _<_, _≤_}
+use Rattle.laws.specs.Cases.{All}
+use Rattle.phy.specs.Entity.{programmedMinimum, programmedMaximum}
+use Rattle.layout.specs.Layout.{phyCount}
+use Rattle.adapter.specs.Adapter.{phyIn}
+use Rattle.level.specs.Text.{textLevel}
+use Rattle.disk.specs.Laws.{sector}
+use Rattle.passthrough.specs.Passthrough.{diskOf}
+use Rattle.state.specs.State.{zeroState}
+use Rattle.state.specs.Open.{openedOf}
+use Rattle.claims.specs.Run.{Entry, End, wholeRun, exchanges, given, sentOf, denial}
+use Rattle.claims.specs.LastWriter.{lastSector, lastMinimum, lastMaximum}
+
+-- "the last-writer half": of one run over a file and a medium, which ended so
+pub record LastWriter (text file medium : List ℕ) (end : End) : Type 0 where
+  -- "Where the opening accepts, the half holds for every sector of every disk and both programmed rates of every phy below the
+  -- file's p"
+  pub sectors : openedOf text file medium .call ≡ 0 → (n k : ℕ) → n < phyCount file → k < 16
+      → sector (diskOf (end .medium) n) k ≡ lastSector file medium (exchanges (end .log)) n k
+  pub minima : openedOf text file medium .call ≡ 0 → (n : ℕ) → n < phyCount file
+      → programmedMinimum (phyIn (end .state .adapter) n) ≡ lastMinimum file (exchanges (end .log)) n
+  pub maxima : openedOf text file medium .call ≡ 0 → (n : ℕ) → n < phyCount file
+      → programmedMaximum (phyIn (end .state .adapter) n) ≡ lastMaximum file (exchanges (end .log)) n
+  -- "After a refused opening there is no phy and no programmed rate, and the whole medium stays as it was"
+  pub refusedState : (openedOf text file medium .call ≡ 0 → ⊥) → end .state ≡ zeroState
+  pub refusedMedium : (openedOf text file medium .call ≡ 0 → ⊥) → end .medium ≡ medium
+
+-- two runs that ended so, the lower and the higher
+pub record Comparison (lower higher : End) : Type 0 where
+  -- "Tables, counters and disks are every field of the state but the level, and every byte of the medium"
+  pub tables : lower .state .adapter ≡ higher .state .adapter
+  pub disks : lower .medium ≡ higher .medium
+  -- the requests that both were given got the same replies
+  pub replies : given (lower .log) ≡ exchanges (higher .log)
+  -- a denied request got its return code, and nothing else
+  pub denials : All (λ (e : Entry). e .denied ≡ true → e .exchange .reply ≡ denial (e .exchange .sent)) (lower .log)
+
+-- "Both runs start with the same file and the same medium bytes; each text gives a level, the lower run's at most the higher's.
+-- The higher run's list is the lower's without the requests denied there"
+module _ (low high file medium : List ℕ) (requests : List (List ℕ)) where
+  abbrev pub lowerRun : End
+  lowerRun = wholeRun low file medium requests
+
+  abbrev pub higherRun : End
+  higherRun = wholeRun high file medium (sentOf (given (lowerRun .log)))
+
+  pub record TwoRuns : Type 0 where
+    pub comparison : Comparison lowerRun higherRun
+    pub lower : LastWriter low file medium lowerRun
+    pub higher : LastWriter high file medium higherRun
+
+abbrev pub Claim : Type 0
+Claim =
+    (low high file medium : List ℕ) (requests : List (List ℕ))
+    → textLevel low .call ≡ 0
+    → textLevel high .call ≡ 0
+    → textLevel low .level .0 ≤ textLevel high .level .0
+    → TwoRuns low high file medium requests

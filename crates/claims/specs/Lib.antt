@@ -1,0 +1,10 @@
+pub mod Run
+pub mod LastWriter
+pub mod Claim
+pub mod Steps
+pub mod Compare
+pub mod Phys
+pub mod Disks
+pub mod Ways
+pub mod Effects
+pub mod Demand3

@@ -1,0 +1,147 @@
+-- The ways that a request can go, so that a claim shows each of them once, and what its reply tells. Assumes nothing.
+use mathlib.Core.Path.{_≡_, refl, sym, _∙_, ap}
+use mathlib.Core.Bool.{Bool, true, false, cond, _&&_}
+use mathlib.Core.List.{List, _++_}
+use Prim.Native.Nat.{ℕ, _+_, _^_, _<_, _≤_}
+use native.Mathlib.Omega.{arith}
+use lib.Dec.{eqb, leb, ltb}
+use lib.ListN.{length, getD, take, drop, length-append}
+use lib.Seq.{length-take-le, getD-drop, getD-append-add}
+use borrow.Author.Tests.{ne-eqb, eqb-true, eqb-false, ltb-false}
+use Rattle.laws.specs.Choice.{either, either-by}
+use Rattle.laws.specs.Splice.{part, splice, part-splice, get-above}
+use Rattle.codes.specs.Codes.{getDriverInfo, getPhyInfo, setPhyInfo, getLinkErrors, stpPassthru, getSataSignature, getScsiAddress, getDeviceAddress, success}
+use Rattle.wire.specs.Number.{number, bytes, length-bytes, number-bytes}
+use Rattle.phy.specs.Entity.{isSata}
+use Rattle.rows.specs.Row.{deviceIndex, osIndex}
+use Rattle.level.specs.declared.Level.{Level}
+use Rattle.disk.specs.Laws.{replyStatus}
+use Rattle.adapter.specs.declared.Adapter.{Adapter}
+use Rattle.adapter.specs.Adapter.{phyIn}
+use Rattle.reports.specs.Report.{Report}
+use Rattle.reports.specs.DriverInfo.{driverInfo}
+use Rattle.reports.specs.PhyInfo.{phyInfo}
+use Rattle.reports.specs.Signature.{signatureOf, sataSignature}
+use Rattle.reports.specs.ScsiAddress.{osBytes, scsiAddress}
+use Rattle.reports.specs.DeviceAddress.{deviceBytes, deviceAddress}
+use Rattle.changes.specs.Changed.{left as changedBy}
+use Rattle.changes.specs.SetPhyInfo.{setPhyInfo as setInfo}
+use Rattle.changes.specs.LinkErrors.{linkErrors}
+use Rattle.passthrough.specs.Passthrough.{passthrough}
+use Rattle.state.specs.declared.State.{State}
+use Rattle.state.specs.State.{stateHolds}
+use Rattle.state.specs.Open.{mediumSize}
+use Rattle.header.specs.Table.{structureSize, dataSize}
+use Rattle.header.specs.Header.{headerLength, control, bodyLength, bodyOf, signatureHolds, lengthHolds, codeChecked, headerCode, above, accessCode}
+use Rattle.header.specs.Laws.{access-room}
+use Rattle.dispatch.specs.Serve.{Served, unchanged, changed, passed, reportOf, served}
+use Rattle.dispatch.specs.Request.{Outcome, untouched, inBuffer, refused, answered, replied, answeredAt, handled}
+use Rattle.claims.specs.Run.{Reply}
+use Rattle.claims.specs.LastWriter.{granted}
+
+-- ---- a request whose level was granted
+
+pub served-by : (ad : Adapter) (medium : List ℕ) (code : ℕ) (body : List ℕ) (P : Served → Type 0)
+    → (code ≡ setPhyInfo → P (changed medium (changedBy (setInfo ad body) body)))
+    → (code ≡ getLinkErrors → P (changed medium (linkErrors ad body)))
+    → (code ≡ stpPassthru → P (passed ad (passthrough ad medium body)))
+    → ((code ≡ setPhyInfo → ⊥) → (code ≡ stpPassthru → ⊥) → P (changed medium (unchanged ad (reportOf ad code body))))
+    → P (served ad medium code body)
+unfolding served
+served-by ad medium code body P set errors pass report =
+    either-by P (eqb code setPhyInfo) (λ h. set (eqb-true code setPhyInfo h))
+    (λ n. either-by P (eqb code getLinkErrors) (λ h. errors (eqb-true code getLinkErrors h))
+    (λ _. either-by P (eqb code stpPassthru) (λ h. pass (eqb-true code stpPassthru h))
+    (λ m. report (eqb-false code setPhyInfo n) (eqb-false code stpPassthru m))))
+
+-- return codes are small
+pub report-code : (ad : Adapter) (code : ℕ) (body : List ℕ) → reportOf ad code body .code ≤ 2014
+unfolding reportOf driverInfo phyInfo sataSignature signatureOf scsiAddress osBytes deviceAddress deviceBytes
+report-code ad code body =
+    let phy = phyIn ad (getD body 0 0) in
+    either Small (eqb code getDriverInfo) (omega arith)
+    (either Small (eqb code getPhyInfo) (omega arith)
+    (either Small (eqb code getSataSignature)
+    (either Small (ltb (getD body 0 0) (ad .«phy_count»))
+    (either Small (isSata phy) (either Small (eqb (phy .held) 1) (omega arith) (omega arith)) (omega arith)) (omega arith))
+    (either Small (eqb code getScsiAddress)
+    (either Small (ltb (deviceIndex (ad .rows) (ad .«row_count») (part body 0 16)) (ad .«row_count»)) (omega arith) (omega arith))
+    (either Small (eqb code getDeviceAddress)
+    (either Small (ltb (osIndex (ad .rows) (ad .«row_count») (part body 0 4)) (ad .«row_count»)) (omega arith) (omega arith))
+    (omega arith)))))
+  where
+    Small : Report → Type 0
+    Small r = r .code ≤ 2014
+
+pub access-code : (level : Level) (buffer : List ℕ) → accessCode level buffer ≤ 2014
+unfolding accessCode headerCode codeChecked
+access-code level buffer =
+    either Small (eqb (headerCode buffer) success) (either Small (above level buffer) (omega arith) (omega arith))
+    (either Small (eqb (headerLength buffer) 28)
+    (either Small (eqb (structureSize (control buffer)) 0) (omega arith)
+    (either Small (signatureHolds (control buffer) buffer)
+    (either Small (lengthHolds (control buffer) (bodyLength buffer) (bodyOf buffer)) (omega arith) (omega arith)) (omega arith)))
+    (omega arith))
+  where
+    Small : ℕ → Type 0
+    Small n = n ≤ 2014
+
+-- ---- a request
+
+-- what is known where the level was granted
+pub record Ready (s : State) (medium request : List ℕ) : Type 0 where
+  pub holds : stateHolds s ≡ true
+  pub disks : mediumSize (s .adapter) ≡ length medium
+  pub long : 28 ≤ length request
+  pub room : structureSize (control request) + dataSize (control request) (bodyOf request) ≤ length (bodyOf request)
+
+pub handled-by : (s : State) (medium request : List ℕ) (P : Outcome → Type 0)
+    → ((call : ℕ) → 0 < call → P (untouched call s medium request))
+    → ((code : ℕ) → 0 < code → code ≤ 2014 → 28 ≤ length request → P (replied (s .level) (refused code (s .adapter) medium request)))
+    → (Ready s medium request → P (replied (s .level) (inBuffer request (served (s .adapter) medium (control request) (bodyOf request)))))
+    → P (handled s medium request)
+unfolding handled answeredAt answered
+handled-by s medium request P number refuse serve =
+    either-by P (stateHolds s)
+    (λ a. either-by P (eqb (mediumSize (s .adapter)) (length medium))
+    (λ b. either-by P (ltb (length request) 28) (λ _. number 100 (omega arith))
+    (λ c. let long : 28 ≤ length request = ltb-false (length request) 28 c in
+    either-by (λ x. P (replied (s .level) x)) (eqb (accessCode (s .level) request) success)
+    (λ z. serve (record {
+      holds = a;
+      disks = eqb-true (mediumSize (s .adapter)) (length medium) b;
+      long = long;
+      room = access-room (s .level) request (accessCode (s .level) request) refl (eqb-true (accessCode (s .level) request) success z);
+    }))
+    (λ z. let n : (accessCode (s .level) request ≡ 0 → ⊥) = eqb-false (accessCode (s .level) request) success z in
+    refuse (accessCode (s .level) request) (omega arith) (access-code (s .level) request) long)))
+    (λ _. number 106 (omega arith)))
+    (λ _. number 107 (omega arith))
+
+-- ---- what the reply tells
+
+-- the return code that was written
+pub granted-code : (buffer : List ℕ) (code : ℕ) → 28 ≤ length buffer → code ≤ 2014
+    → granted (record { call = 0; buffer = splice buffer 20 (bytes 4 code) }) ≡ eqb code success
+unfolding granted
+granted-code buffer code h k =
+    let p : part (splice buffer 20 (bytes 4 code)) 20 4 ≡ bytes 4 code = rw (length-bytes 4 code) at (part-splice buffer 20 (bytes 4 code) (omega arith)) in
+    rw (p, number-bytes 4 code (omega arith)) refl
+
+-- a call that gave a number granted nothing
+pub not-granted : (call : ℕ) (buffer : List ℕ) → 0 < call → granted (record { call = call; buffer = buffer }) ≡ false
+unfolding granted
+not-granted call buffer h = rw (ne-eqb call 0 (λ e. omega arith)) refl
+
+-- the header keeps its length
+pub in-buffer : (request body : List ℕ) → 28 ≤ length request → 28 ≤ length (take 28 request ++ body)
+in-buffer request body h = rw (length-append (take 28 request) body, length-take-le 28 request h) (omega arith)
+
+-- the status that the body shows
+pub status-shown : (request body : List ℕ) (code : ℕ) → 28 ≤ length request
+    → replyStatus (bodyOf (splice (take 28 request ++ body) 20 (bytes 4 code))) ≡ replyStatus body
+status-shown request body code h =
+    let l : length (take 28 request) ≡ 28 = length-take-le 28 request h in
+    getD-drop 28 (splice (take 28 request ++ body) 20 (bytes 4 code)) 50 0
+    ∙ get-above (take 28 request ++ body) 20 (bytes 4 code) 78 0 (rw (length-append (take 28 request) body, l) (omega arith)) (rw length-bytes (omega arith))
+    ∙ rw l at (getD-append-add (take 28 request) body 50 0)
