@@ -1,7 +1,7 @@
 -- The tables and counters of an adapter, and the rules that the file and the state share (document 01, "Adapter file" and
 -- "From the state"). Assumes nothing.
 use mathlib.Core.Bool.{Bool, _&&_}
-use Prim.Native.Nat.{ℕ, _+_, _-_}
+use Prim.Native.Nat.{ℕ, _+_, _-_, _*_}
 use lib.Dec.{leb}
 use lib.ListN.{getD, set, replicate}
 use Rattle.laws.specs.All.{allTo}
@@ -40,6 +40,10 @@ zeroAdapter =
 -- "the phy count p (1–32)", "the row count a (0–64)"
 unfoldable pub countsHold : ℕ → ℕ → Bool
 countsHold p a = leb 1 p && leb p 32 && leb a 64
+
+-- "medium length 8,192 × p"
+abbrev pub mediumSize : Adapter → ℕ
+mediumSize ad = 8192 * ad .«phy_count»
 
 -- the field rules, of each phy below p (but for the negotiated rate, which the link rule gives)
 unfoldable pub fieldsAll : Adapter → Bool

@@ -1,4 +1,4 @@
 pub mod Changed
 pub mod SetPhyInfo
 pub mod LinkErrors
-pub mod Stores
+pub mod Laws

@@ -10,7 +10,7 @@ use Rattle.wire.specs.Number.{bytes}
 use Rattle.phy.specs.Change.{cleared}
 use Rattle.adapter.specs.declared.Adapter.{Adapter}
 use Rattle.adapter.specs.Adapter.{phyIn, withPhy}
-use Rattle.changes.specs.Changed.{Changed, changed}
+use Rattle.changes.specs.Changed.{Changed, leaves}
 
 -- "report the counters": four numbers of 32 bits, in the order of 6.9
 unfoldable pub reported : List ℕ → List ℕ → List ℕ
@@ -27,6 +27,6 @@ unfoldable pub linkErrors : Adapter → List ℕ → Changed
 linkErrors ad body =
     cond (leb (getD body 1 0) 1)
     (cond (ltb (getD body 0 0) (ad .«phy_count»))
-    (changed success (afterReset ad (getD body 0 0) (getD body 1 0)) (reported body (phyIn ad (getD body 0 0) .counters)))
-    (changed phyDoesNotExist ad body))
-    (changed invalidParameter ad body)
+    (leaves success (afterReset ad (getD body 0 0) (getD body 1 0)) (reported body (phyIn ad (getD body 0 0) .counters)))
+    (leaves phyDoesNotExist ad body))
+    (leaves invalidParameter ad body)

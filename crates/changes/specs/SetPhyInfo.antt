@@ -12,12 +12,12 @@ use Rattle.fields.specs.Rules.{isRate, rangeHolds}
 use Rattle.link.specs.Rule.{reset, disabled}
 use Rattle.adapter.specs.declared.Adapter.{Adapter}
 use Rattle.adapter.specs.Adapter.{phyIn, withPhy}
-use Rattle.changes.specs.declared.Setting.{Setting}
+use Rattle.changes.specs.declared.PhySetting.{PhySetting}
 use Rattle.changes.specs.declared.Served.{Served}
-use Rattle.changes.specs.Changed.{served}
+use Rattle.changes.specs.Changed.{gives}
 
 -- what the body asks: "negotiated byte", "class", and "each programmed byte"
-unfoldable pub asked : List ℕ → Setting
+unfoldable pub asked : List ℕ → PhySetting
 asked body = record { negotiated = getD body 1 0; minimum = getD body 2 0; maximum = getD body 3 0; class = getD body 4 0 }
 
 -- "each programmed byte 0 (unchanged), 8 or 9"
@@ -29,11 +29,11 @@ unfoldable pub resulting : ℕ → ℕ → ℕ
 resulting byte rate = cond (eqb byte 0) rate byte
 
 -- "negotiated byte 0 (enable) or 1 (disable), class 0–3"
-unfoldable pub parametersHold : Setting → Bool
+unfoldable pub parametersHold : PhySetting → Bool
 parametersHold s = leb (s .negotiated) 1 && leb (s .class) 3
 
 -- "each programmed byte 0 (unchanged), 8 or 9, and the resulting range within hardware and not inverted"
-unfoldable pub ratesHold : Phy → Setting → ℕ → ℕ → Bool
+unfoldable pub ratesHold : Phy → PhySetting → ℕ → ℕ → Bool
 ratesHold phy s minimum maximum = programmable (s .minimum) && programmable (s .maximum) && rangeHolds phy minimum maximum
 
 -- "negotiated becomes 1 if disabled, else a link reset"
@@ -41,23 +41,23 @@ unfoldable pub linked : ℕ → Phy → Phy
 linked negotiated phy = cond (eqb negotiated 1) (disabled phy) (reset phy)
 
 -- "Then store class and rates; negotiated becomes .."
-unfoldable pub setTo : Phy → Setting → ℕ → ℕ → Phy
+unfoldable pub setTo : Phy → PhySetting → ℕ → ℕ → Phy
 setTo phy s minimum maximum = linked (s .negotiated) (configured phy (s .class) minimum maximum)
 
 -- "not fixed; negotiated byte ..; each programmed byte ..", of a phy that exists, with the two resulting rates
-unfoldable pub setChecked : Adapter → ℕ → Phy → Setting → ℕ → ℕ → Served
+unfoldable pub setChecked : Adapter → ℕ → Phy → PhySetting → ℕ → ℕ → Served
 setChecked ad n phy s minimum maximum =
-    cond (eqb (phy .fixed) 1) (served phyInfoNotChangeable ad)
+    cond (eqb (phy .fixed) 1) (gives phyInfoNotChangeable ad)
     (cond (parametersHold s)
-    (cond (ratesHold phy s minimum maximum) (served phyInfoChanged (withPhy ad n (setTo phy s minimum maximum))) (served linkRateOutOfRange ad))
-    (served invalidParameter ad))
+    (cond (ratesHold phy s minimum maximum) (gives phyInfoChanged (withPhy ad n (setTo phy s minimum maximum))) (gives linkRateOutOfRange ad))
+    (gives invalidParameter ad))
 
 -- the same with the rates that the request leaves
-unfoldable pub setPhy : Adapter → ℕ → Phy → Setting → Served
+unfoldable pub setPhy : Adapter → ℕ → Phy → PhySetting → Served
 setPhy ad n phy s =
     setChecked ad n phy s (resulting (s .minimum) (programmedMinimum phy)) (resulting (s .maximum) (programmedMaximum phy))
 
 -- "21: phy exists", and what follows. The body stays
 unfoldable pub setPhyInfo : Adapter → List ℕ → Served
 setPhyInfo ad body =
-    cond (ltb (getD body 0 0) (ad .«phy_count»)) (setPhy ad (getD body 0 0) (phyIn ad (getD body 0 0)) (asked body)) (served phyDoesNotExist ad)
+    cond (ltb (getD body 0 0) (ad .«phy_count»)) (setPhy ad (getD body 0 0) (phyIn ad (getD body 0 0)) (asked body)) (gives phyDoesNotExist ad)

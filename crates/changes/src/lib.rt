@@ -14,7 +14,7 @@ pub struct Served {
 }
 
 // What a code 21 asks: the negotiated byte, the two programmed bytes, and the signal class.
-pub struct Setting {
+pub struct PhySetting {
     pub negotiated: u8,
     pub minimum: u8,
     pub maximum: u8,

@@ -8,7 +8,7 @@ ghost use lib.ListN.{length};
 ghost use Rattle.codes.specs.Codes.{success};
 ghost use Rattle.phy.specs.Change.{cleared};
 ghost use Rattle.adapter.specs.Adapter.{phyIn, withPhy};
-ghost use Rattle.changes.specs.Changed.{changed, left};
+ghost use Rattle.changes.specs.Changed.{leaves, left};
 ghost use Rattle.changes.specs.LinkErrors.{reported, afterReset, linkErrors};
 
 fn put_counters(counters: [u32; 4], body: &mut [u8])
@@ -41,7 +41,7 @@ fn after_reset(adapter: Adapter, n: PhyIdentifier, byte: u8) -> Adapter
 fn report(adapter: Adapter, n: PhyIdentifier, byte: u8, body: &mut [u8]) -> Served
     requires { ⌜ n .0 < 32 ⌝ }
     requires { ⌜ 20 ≤ length (now body) ⌝ }
-    ensures { λ s. ⌜ left s (now (body .exit)) ≡ changed success (afterReset adapter (n .0) byte) (reported (now (body .entry)) (phyIn adapter (n .0) .counters)) ⌝ }
+    ensures { λ s. ⌜ left s (now (body .exit)) ≡ leaves success (afterReset adapter (n .0) byte) (reported (now (body .entry)) (phyIn adapter (n .0) .counters)) ⌝ }
 {
     let phy = adapter.phy(n);
     let counters = phy.counters;

@@ -1,6 +1,6 @@
 // Code 21, set phy info.
+use crate::PhySetting;
 use crate::Served;
-use crate::Setting;
 use adapter::Adapter;
 use phy::Phy;
 use phy::PhyIdentifier;
@@ -10,14 +10,14 @@ ghost use lib.ListN.{length};
 ghost use Rattle.codes.specs.Codes.{phyInfoChanged};
 ghost use Rattle.adapter.specs.Adapter.{phyIn, withPhy};
 ghost use Rattle.changes.specs.SetPhyInfo.{asked, programmable, resulting, parametersHold, ratesHold, linked, setTo, setChecked, setPhy, setPhyInfo};
-ghost use Rattle.changes.specs.Changed.{served};
+ghost use Rattle.changes.specs.Changed.{gives};
 
 // The setting in a body.
-fn parse(body: &[u8]) -> Setting
+fn parse(body: &[u8]) -> PhySetting
     requires { ⌜ 8 ≤ length (now body) ⌝ }
     ensures { λ r. ⌜ r ≡ asked (now (body .entry)) ⌝ }
 {
-    Setting {
+    PhySetting {
         negotiated: body[1],
         minimum: body[2],
         maximum: body[3],
@@ -42,13 +42,13 @@ fn result(byte: u8, rate: u8) -> u8
     byte
 }
 
-fn parameters_hold(s: Setting) -> bool
+fn parameters_hold(s: PhySetting) -> bool
     ensures { λ r. ⌜ r ≡ parametersHold s ⌝ }
 {
     (s.negotiated <= 1) & (s.class <= 3)
 }
 
-fn rates_hold(phy: Phy, s: Setting, minimum: u8, maximum: u8) -> bool
+fn rates_hold(phy: Phy, s: PhySetting, minimum: u8, maximum: u8) -> bool
     ensures { λ r. ⌜ r ≡ ratesHold phy s minimum maximum ⌝ }
 {
     is_programmable(s.minimum)
@@ -70,7 +70,7 @@ fn store(
     adapter: Adapter,
     n: PhyIdentifier,
     phy: Phy,
-    s: Setting,
+    s: PhySetting,
     minimum: u8,
     maximum: u8,
 ) -> Adapter
@@ -86,13 +86,13 @@ fn change(
     adapter: Adapter,
     n: PhyIdentifier,
     phy: Phy,
-    s: Setting,
+    s: PhySetting,
     minimum: u8,
     maximum: u8,
 ) -> Served
     requires { ⌜ n .0 < 32 ⌝ }
     requires { ⌜ (minimum < 16) × (maximum < 16) ⌝ }
-    ensures { λ r. ⌜ r ≡ served phyInfoChanged (withPhy adapter (n .0) (setTo phy s minimum maximum)) ⌝ }
+    ensures { λ r. ⌜ r ≡ gives phyInfoChanged (withPhy adapter (n .0) (setTo phy s minimum maximum)) ⌝ }
 {
     Served {
         code: codes::PHY_INFO_CHANGED,
@@ -104,7 +104,7 @@ fn set_checked(
     adapter: Adapter,
     n: PhyIdentifier,
     phy: Phy,
-    s: Setting,
+    s: PhySetting,
     minimum: u8,
     maximum: u8,
 ) -> Served
@@ -132,7 +132,7 @@ fn set_checked(
     }
 }
 
-fn set_phy(adapter: Adapter, n: PhyIdentifier, phy: Phy, s: Setting) -> Served
+fn set_phy(adapter: Adapter, n: PhyIdentifier, phy: Phy, s: PhySetting) -> Served
     requires { ⌜ n .0 < 32 ⌝ }
     ensures { λ r. ⌜ r ≡ setPhy adapter (n .0) phy s ⌝ }
 {

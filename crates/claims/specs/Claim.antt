@@ -49,6 +49,9 @@ module _ (low high file medium : List ℕ) (requests : List (List ℕ)) where
   higherRun = wholeRun high file medium (sentOf (given (lowerRun .log)))
 
   pub record TwoRuns : Type 0 where
+    -- every request of each list was answered, in order
+    pub lowerAnswered : sentOf (exchanges (lowerRun .log)) ≡ requests
+    pub higherAnswered : sentOf (exchanges (higherRun .log)) ≡ sentOf (given (lowerRun .log))
     pub comparison : Comparison lowerRun higherRun
     pub lower : LastWriter low file medium lowerRun
     pub higher : LastWriter high file medium higherRun

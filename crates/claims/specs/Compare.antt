@@ -12,6 +12,12 @@ use Rattle.claims.specs.Run.{Reply, Exchange, Entry, End, replyOf, entry
 use Rattle.claims.specs.Claim.{Comparison}
 use Rattle.claims.specs.Steps.{denied-step, level-kept, Same, same-step}
 
+-- a run answers every request, in order
+pub all-answered : (s : State) (medium : List ℕ) (requests : List (List ℕ)) → sentOf (exchanges (run s medium requests .log)) ≡ requests
+unfolding run exchanges sentOf
+all-answered s medium [] = refl
+all-answered s medium (q ∷ qs) = ap (λ (xs : List (List ℕ)). q ∷ xs) (all-answered _ _ qs)
+
 -- the step of two states that differ in the level alone
 same-states : (s t : State) (m n request : List ℕ) → s .adapter ≡ t .adapter → m ≡ n → s .level .0 ≤ t .level .0 → t .level .0 ≤ 3
     → denied s m request ≡ false → Same (handled s m request) (handled t n request)
@@ -49,7 +55,7 @@ after-given : (s t : State) (m n request : List ℕ) (lower higher : End) → de
 unfolding exchanges
 after-given s t m n request lower higher d p c =
     let r : replyOf (handled s m request) ≡ replyOf (handled t n request) =
-        ap₂ (λ (call : ℕ) (buffer : List ℕ). record { call = call; buffer = buffer }) (p .call) (p .buffer) in
+    ap₂ (λ (call : ℕ) (buffer : List ℕ). record { call = call; buffer = buffer }) (p .call) (p .buffer) in
     record {
       tables = c .tables;
       disks = c .disks;

@@ -23,7 +23,7 @@ use Rattle.file.specs.Accepted.{phy-read, length-phys}
 use Rattle.disk.specs.Laws.{sector}
 use Rattle.rows.specs.Row.{rowsHold}
 use Rattle.adapter.specs.declared.Adapter.{Adapter}
-use Rattle.adapter.specs.Adapter.{phyIn, zeroAdapter, countsHold}
+use Rattle.adapter.specs.Adapter.{phyIn, zeroAdapter, countsHold, mediumSize}
 use Rattle.adapter.specs.Store.{phys-bound}
 use Rattle.link.specs.All.{negotiatedAll}
 use Rattle.changes.specs.SetPhyInfo.{resulting}
@@ -31,15 +31,15 @@ use Rattle.passthrough.specs.Passthrough.{diskOf}
 use Rattle.state.specs.declared.State.{State}
 use Rattle.state.specs.declared.Opened.{Opened}
 use Rattle.state.specs.State.{adapterHolds, stateHolds, zeroState}
-use Rattle.state.specs.Open.{refused, mediumSize, judged, openedFile, openedText, openedOf}
+use Rattle.state.specs.Open.{refused, judged, openedFile, openedText, openedOf}
 use Rattle.state.specs.Accepted.{Open, open-accepted}
-use Rattle.dispatch.specs.Request.{untouched, handled}
+use Rattle.dispatch.specs.Request.{callNumber, untouched, handled}
 use Rattle.claims.specs.Run.{run, wholeRun, exchanges, given, sentOf}
 use Rattle.claims.specs.LastWriter.{sectorBy, rateBy, lastSector, lastMinimum, lastMaximum}
 use Rattle.claims.specs.Claim.{LastWriter, lowerRun, Claim}
 use Rattle.claims.specs.Phys.{setNow, minimum-set, maximum-set}
 use Rattle.claims.specs.Effects.{Tied, tied-step, sector-step, rate-step}
-use Rattle.claims.specs.Compare.{compare}
+use Rattle.claims.specs.Compare.{all-answered, compare}
 
 -- ---- over a list of requests
 
@@ -54,14 +54,14 @@ sectors-by file s medium (q ∷ qs) t n k =
 module _ (place : ℕ) (rate : Phy → ℕ)
     (sets : (phy : Phy) (b : List ℕ) → length (phy .entity) ≡ 64 → rate (setNow phy b) ≡ resulting (getD b place 0) (rate phy))
     (same : (a b : Phy) → Settings a b → rate b ≡ rate a)
-    where
-  rates-by : (file : List ℕ) (s : State) (medium : List ℕ) (requests : List (List ℕ)) → Tied file s medium → (n : ℕ)
-      → rate (phyIn (run s medium requests .state .adapter) n) ≡ rateBy place n (rate (phyIn (s .adapter) n)) (exchanges (run s medium requests .log))
-  unfolding run exchanges rateBy
-  rates-by file s medium [] t n = refl
-  rates-by file s medium (q ∷ qs) t n =
-      rates-by file (handled s medium q .state) (handled s medium q .medium) qs (tied-step file s medium t q) n
-      ∙ ap (λ (x : ℕ). rateBy place n x (exchanges (run (handled s medium q .state) (handled s medium q .medium) qs .log))) (rate-step file s medium t q place rate sets same n)
+  where
+    rates-by : (file : List ℕ) (s : State) (medium : List ℕ) (requests : List (List ℕ)) → Tied file s medium → (n : ℕ)
+        → rate (phyIn (run s medium requests .state .adapter) n) ≡ rateBy place n (rate (phyIn (s .adapter) n)) (exchanges (run s medium requests .log))
+    unfolding run exchanges rateBy
+    rates-by file s medium [] t n = refl
+    rates-by file s medium (q ∷ qs) t n =
+        rates-by file (handled s medium q .state) (handled s medium q .medium) qs (tied-step file s medium t q) n
+        ∙ ap (λ (x : ℕ). rateBy place n x (exchanges (run (handled s medium q .state) (handled s medium q .medium) qs .log))) (rate-step file s medium t q place rate sets same n)
 
 -- ---- where the opening accepts
 
@@ -106,7 +106,7 @@ opened-zero text file medium =
 
 -- 107 refuses the zero state, so it goes on as it is
 zero-step : (medium request : List ℕ) → handled zeroState medium request ≡ untouched badState zeroState medium request
-unfolding handled stateHolds adapterHolds countsHold zeroState zeroAdapter
+unfolding handled callNumber stateHolds adapterHolds countsHold zeroState zeroAdapter
 zero-step medium request = refl
 
 zero-run : (medium : List ℕ) (requests : List (List ℕ)) → (run zeroState medium requests .state ≡ zeroState) × (run zeroState medium requests .medium ≡ medium)
@@ -169,8 +169,11 @@ pub claim : Claim
 unfolding wholeRun
 claim low high file medium requests p q h =
     let o = texts-paired low high file medium p q h in
+    let list = sentOf (given (lowerRun low high file medium requests .log)) in
     record {
+      lowerAnswered = all-answered (openedOf low file medium .state) medium requests;
+      higherAnswered = all-answered (openedOf high file medium .state) medium list;
       comparison = compare (openedOf low file medium .state) (openedOf high file medium .state) medium medium requests (o .tables) refl (o .levels) (o .bound);
       lower = last-writer low file medium requests;
-      higher = last-writer high file medium (sentOf (given (lowerRun low high file medium requests .log)));
+      higher = last-writer high file medium list;
     }

@@ -19,11 +19,11 @@ use Rattle.disk.specs.Disk.{fis, lba, dataLength, served, Served, Lent}
 use Rattle.disk.specs.Ways.{served-by}
 use Rattle.disk.specs.Laws.{sector, writes, covers, sectorAfter, disk-length, sector-after}
 use Rattle.adapter.specs.declared.Adapter.{Adapter}
-use Rattle.adapter.specs.Adapter.{phyIn}
+use Rattle.adapter.specs.Adapter.{mediumSize, phyIn}
 use Rattle.passthrough.specs.declared.Selection.{Selection}
 use Rattle.passthrough.specs.Select.{selection, selectBy, selectIn, none, selected, lowestOf, phyGiven, portGiven, portIn}
 use Rattle.passthrough.specs.Laws.{selected-below}
-use Rattle.passthrough.specs.Passthrough.{Passed, passed, phyAsked, portAsked, rateOf, destinationOf, formHolds, connected, diskOf, onDisk, connectedTo, passedTo, passthrough}
+use Rattle.passthrough.specs.Passthrough.{Passed, leaves, phyAsked, portAsked, connectionRate, destinationOf, formHolds, connected, diskOf, onDisk, sentTo, passedTo, passthrough}
 
 -- ---- the ways that it can go
 
@@ -47,13 +47,13 @@ module _ (ad : Adapter) (medium body : List ℕ) where
       Small s = s .code ≤ 2014
 
   -- it is refused, or the phy that it selects is connected and its disk serves the command
-  pub passed-by : (P : Passed → Type 0) → ((code : ℕ) → 0 < code → code ≤ 2014 → P (passed code medium body))
+  pub passed-by : (P : Passed → Type 0) → ((code : ℕ) → 0 < code → code ≤ 2014 → P (leaves code medium body))
       → (chosen .code ≡ success → P (onDisk medium (chosen .phy .0) body)) → P (passthrough ad medium body)
-  unfolding passthrough passedTo connectedTo
+  unfolding passthrough passedTo sentTo
   passed-by P refused done =
-      either P (formHolds (fis body 0) (rateOf body))
+      either P (formHolds (fis body 0) (connectionRate body))
       (either-by P (eqb (chosen .code) success)
-      (λ h. either P (connected (phyIn ad (chosen .phy .0)) (rateOf body) (destinationOf body)) (done (eqb-true (chosen .code) success h))
+      (λ h. either P (connected (phyIn ad (chosen .phy .0)) (connectionRate body) (destinationOf body)) (done (eqb-true (chosen .code) success h))
       (refused connectionFailed (omega arith) (omega arith)))
       (λ h. let n : chosen .code ≢ 0 = eqb-false (chosen .code) success h in
       refused (chosen .code) (omega arith) chosen-code))
@@ -80,7 +80,7 @@ module _ (medium d : List ℕ) (n : ℕ) (h : 8192 * n + 8192 ≤ length medium)
 
 -- ---- the sectors, the medium's length and the return code
 
-module _ (ad : Adapter) (medium body : List ℕ) (h : length medium ≡ 8192 * ad .«phy_count») (r : 136 + dataLength body ≤ length body) where
+module _ (ad : Adapter) (medium body : List ℕ) (h : length medium ≡ mediumSize ad) (r : 136 + dataLength body ≤ length body) where
   abbrev to : ℕ
   to = chosen ad medium body .phy .0
 

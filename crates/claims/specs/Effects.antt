@@ -22,7 +22,7 @@ use Rattle.file.specs.File.{phyAt}
 use Rattle.disk.specs.Disk.{command, lba, dataLength}
 use Rattle.disk.specs.Laws.{sector, replyStatus, writes, covers}
 use Rattle.adapter.specs.declared.Adapter.{Adapter}
-use Rattle.adapter.specs.Adapter.{phyIn}
+use Rattle.adapter.specs.Adapter.{mediumSize, phyIn}
 use Rattle.changes.specs.Changed.{left as changedBy}
 use Rattle.changes.specs.SetPhyInfo.{resulting, setPhyInfo as setInfo}
 use Rattle.changes.specs.LinkErrors.{linkErrors}
@@ -31,7 +31,7 @@ use Rattle.passthrough.specs.Laws.{selection-past}
 use Rattle.passthrough.specs.Passthrough.{phyAsked, portAsked, diskOf, passthrough}
 use Rattle.state.specs.declared.State.{State}
 use Rattle.header.specs.Table.{structureSize, dataSize}
-use Rattle.header.specs.Header.{control, bodyOf}
+use Rattle.header.specs.Header.{controlCode, bodyOf}
 use Rattle.dispatch.specs.Serve.{Served, changed, passed, unchanged, reportOf, served}
 use Rattle.dispatch.specs.Laws.{passthrough-lent}
 use Rattle.dispatch.specs.Request.{Outcome, untouched, inBuffer, refused, replied, handled}
@@ -48,7 +48,7 @@ select-same : (f g : ℕ → PortIdentifier) (p : ℕ) (phy : PhyIdentifier) (po
 unfolding selectBy lowestOf
 select-same f g p phy port h =
     let l : lowestOf f p port ≡ lowestOf g p port =
-        first-same (λ (n : ℕ). eqb (f n .0) (port .0)) (λ (n : ℕ). eqb (g n .0) (port .0)) p (λ n k. ap (λ (x : PortIdentifier). eqb (x .0) (port .0)) (h n k)) in
+    first-same (λ (n : ℕ). eqb (f n .0) (port .0)) (λ (n : ℕ). eqb (g n .0) (port .0)) p (λ n k. ap (λ (x : PortIdentifier). eqb (x .0) (port .0)) (h n k)) in
     rw l
     (by-bool (λ (t : Bool). ltb (phy .0) p ≡ t
     → selection phy port p (lowestOf g p port) (f (phy .0)) ≡ selection phy port p (lowestOf g p port) (g (phy .0)))
@@ -86,21 +86,21 @@ module _ (file : List ℕ) (s : State) (medium : List ℕ) (t : Tied file s medi
     body = bodyOf request
 
     abbrev asked : Served
-    asked = served (s .adapter) medium (control request) body
+    asked = served (s .adapter) medium (controlCode request) body
 
     -- the data of a code 25 is there
-    lent : Ready s medium request → control request ≡ stpPassthru → 136 + dataLength body ≤ length body
-    lent r e = passthrough-lent (control request) (length body) body e (r .room)
+    lent : Ready s medium request → controlCode request ≡ stpPassthru → 136 + dataLength body ≤ length body
+    lent r e = passthrough-lent (controlCode request) (length body) body e (r .room)
 
-    full : Ready s medium request → length medium ≡ 8192 * s .adapter .«phy_count»
-    full r = sym (r .disks)
+    full : Ready s medium request → length medium ≡ mediumSize (s .adapter)
+    full r = r .disks
 
     -- ---- the state after it
 
     pub tied-step : Tied file (handled s medium request .state) (handled s medium request .medium)
     tied-step =
         handled-by s medium request (λ (o : Outcome). Tied file (o .state) (o .medium)) (λ _ _. t) (λ _ _ _ _. t)
-        (λ r. served-by (s .adapter) medium (control request) body (λ (x : Served). Tied file (record { level = s .level; adapter = x .adapter }) (x .medium))
+        (λ r. served-by (s .adapter) medium (controlCode request) body (λ (x : Served). Tied file (record { level = s .level; adapter = x .adapter }) (x .medium))
         (λ _. tied-moved (setInfo (s .adapter) body .adapter) medium (set-moved (s .adapter) body (t .phys) few) refl)
         (λ _. tied-moved (linkErrors (s .adapter) body .adapter) medium (errors-moved (s .adapter) body (t .phys) few) refl)
         (λ e. tied-moved (s .adapter) (passthrough (s .adapter) medium body .medium) (moved-refl (s .adapter)) (passed-length (s .adapter) medium body (full r) (lent r e)))
@@ -118,13 +118,13 @@ module _ (file : List ℕ) (s : State) (medium : List ℕ) (t : Tied file s medi
     unfolding sectorAfter writesSector
     not-written n k x before g = rw g refl
 
-    other-code : (n k : ℕ) (x : Reply) (before : List ℕ) → eqb (control request) stpPassthru ≡ false
+    other-code : (n k : ℕ) (x : Reply) (before : List ℕ) → eqb (controlCode request) stpPassthru ≡ false
         → sectorAfter file n k (record { sent = request; reply = x }) before ≡ before
     unfolding sectorAfter writesSector
     other-code n k x before e = by-bool (λ (g : Bool). granted x ≡ g → sectorAfter file n k (record { sent = request; reply = x }) before ≡ before) (λ p. rw (p, e) refl) (λ p. rw p refl) (granted x) refl
 
     -- what a code 25 writes is what its reply tells
-    writes-told : Ready s medium request → control request ≡ stpPassthru → (n k : ℕ)
+    writes-told : Ready s medium request → controlCode request ≡ stpPassthru → (n k : ℕ)
         → writesSector file n k (answerOf (passed (s .adapter) (passthrough (s .adapter) medium body)))
         ≡ writes (passthrough (s .adapter) medium body .code) body (passthrough (s .adapter) medium body .body)
         && eqb (selectIn (s .adapter) (phyAsked body) (portAsked body) .phy .0) n
@@ -140,7 +140,7 @@ module _ (file : List ℕ) (s : State) (medium : List ℕ) (t : Tied file s medi
         ≡ b && (eqb (command body) 0x30 && eqb (replyStatus (p .body)) 0x50) && eqb (selectIn (s .adapter) (phyAsked body) (portAsked body) .phy .0) n && covers body k)
         refl refl (eqb (p .code) success))
 
-    written : (n k : ℕ) → Ready s medium request → control request ≡ stpPassthru
+    written : (n k : ℕ) → Ready s medium request → controlCode request ≡ stpPassthru
         → sector (diskOf (passthrough (s .adapter) medium body .medium) n) k
         ≡ sectorAfter file n k (answerOf (passed (s .adapter) (passthrough (s .adapter) medium body))) (sector (diskOf medium n) k)
     unfolding sectorAfter
@@ -153,55 +153,55 @@ module _ (file : List ℕ) (s : State) (medium : List ℕ) (t : Tied file s medi
         handled-by s medium request (λ (o : Outcome). sector (diskOf (o .medium) n) k ≡ sectorAfter file n k (exchangeOf o) (sector (diskOf medium n) k))
         (λ call z. sym (not-written n k _ _ (not-granted call request z)))
         (λ code z l h. sym (not-written n k _ _ (granted-code request code h l ∙ ne-eqb code 0 (λ e. omega arith))))
-        (λ r. served-by (s .adapter) medium (control request) body
+        (λ r. served-by (s .adapter) medium (controlCode request) body
         (λ (x : Served). sector (diskOf (x .medium) n) k ≡ sectorAfter file n k (answerOf x) (sector (diskOf medium n) k))
-        (λ e. sym (other-code n k _ _ (ne-eqb (control request) stpPassthru (λ f. omega arith))))
-        (λ e. sym (other-code n k _ _ (ne-eqb (control request) stpPassthru (λ f. omega arith))))
+        (λ e. sym (other-code n k _ _ (ne-eqb (controlCode request) stpPassthru (λ f. omega arith))))
+        (λ e. sym (other-code n k _ _ (ne-eqb (controlCode request) stpPassthru (λ f. omega arith))))
         (λ e. written n k r e)
-        (λ _ f. sym (other-code n k _ _ (ne-eqb (control request) stpPassthru f))))
+        (λ _ f. sym (other-code n k _ _ (ne-eqb (controlCode request) stpPassthru f))))
 
     -- ---- the programmed rates, the minimum and the maximum alike
 
     module _ (place : ℕ) (rate : Phy → ℕ)
         (sets : (phy : Phy) (b : List ℕ) → length (phy .entity) ≡ 64 → rate (setNow phy b) ≡ resulting (getD b place 0) (rate phy))
         (same : (a b : Phy) → Settings a b → rate b ≡ rate a)
-        where
-      not-set : (n : ℕ) (x : Reply) (before : ℕ) → granted x ≡ false → rateAfter place n (record { sent = request; reply = x }) before ≡ before
-      unfolding rateAfter writesRate
-      not-set n x before g = rw g refl
+      where
+        not-set : (n : ℕ) (x : Reply) (before : ℕ) → granted x ≡ false → rateAfter place n (record { sent = request; reply = x }) before ≡ before
+        unfolding rateAfter writesRate
+        not-set n x before g = rw g refl
 
-      not-21 : (n : ℕ) (x : Reply) (before : ℕ) → eqb (control request) setPhyInfo ≡ false
-          → rateAfter place n (record { sent = request; reply = x }) before ≡ before
-      unfolding rateAfter writesRate
-      not-21 n x before e =
-          by-bool (λ (g : Bool). granted x ≡ g → rateAfter place n (record { sent = request; reply = x }) before ≡ before)
-          (λ p. rw (p, e) refl) (λ p. rw p refl) (granted x) refl
+        not-21 : (n : ℕ) (x : Reply) (before : ℕ) → eqb (controlCode request) setPhyInfo ≡ false
+            → rateAfter place n (record { sent = request; reply = x }) before ≡ before
+        unfolding rateAfter writesRate
+        not-21 n x before e =
+            by-bool (λ (g : Bool). granted x ≡ g → rateAfter place n (record { sent = request; reply = x }) before ≡ before)
+            (λ p. rw (p, e) refl) (λ p. rw p refl) (granted x) refl
 
-      -- what a code 21 sets is what its reply tells
-      told : Ready s medium request → control request ≡ setPhyInfo → (n : ℕ)
-          → rate (phyIn (setInfo (s .adapter) body .adapter) n)
-          ≡ rateAfter place n (answerOf (changed medium (changedBy (setInfo (s .adapter) body) body))) (rate (phyIn (s .adapter) n))
-      unfolding rateAfter writesRate
-      told r e n =
-          let c = setInfo (s .adapter) body in
-          let g = granted-code (take 28 request ++ body) (c .code) (in-buffer request body (r .long)) (set-code (s .adapter) body) in
-          rw (g, e)
-          (set-rate place rate sets (s .adapter) body n (t .phys) few (λ m h. t .entities m (rw (t .count) at h))
-          ∙ by-bool
-          (λ (b : Bool). cond (b && eqb (getD body 0 0) n && not (eqb (getD body place 0) 0)) (getD body place 0) (rate (phyIn (s .adapter) n))
-          ≡ cond (b && true && eqb (getD body 0 0) n && not (eqb (getD body place 0) 0)) (getD body place 0) (rate (phyIn (s .adapter) n)))
-          refl refl (eqb (c .code) success))
+        -- what a code 21 sets is what its reply tells
+        told : Ready s medium request → controlCode request ≡ setPhyInfo → (n : ℕ)
+            → rate (phyIn (setInfo (s .adapter) body .adapter) n)
+            ≡ rateAfter place n (answerOf (changed medium (changedBy (setInfo (s .adapter) body) body))) (rate (phyIn (s .adapter) n))
+        unfolding rateAfter writesRate
+        told r e n =
+            let c = setInfo (s .adapter) body in
+            let g = granted-code (take 28 request ++ body) (c .code) (in-buffer request body (r .long)) (set-code (s .adapter) body) in
+            rw (g, e)
+            (set-rate place rate sets (s .adapter) body n (t .phys) few (λ m h. t .entities m (rw (t .count) at h))
+            ∙ by-bool
+            (λ (b : Bool). cond (b && eqb (getD body 0 0) n && not (eqb (getD body place 0) 0)) (getD body place 0) (rate (phyIn (s .adapter) n))
+            ≡ cond (b && true && eqb (getD body 0 0) n && not (eqb (getD body place 0) 0)) (getD body place 0) (rate (phyIn (s .adapter) n)))
+            refl refl (eqb (c .code) success))
 
-      pub rate-step : (n : ℕ)
-          → rate (phyIn (handled s medium request .state .adapter) n) ≡ rateAfter place n (exchangeOf (handled s medium request)) (rate (phyIn (s .adapter) n))
-      rate-step n =
-          handled-by s medium request (λ (o : Outcome). rate (phyIn (o .state .adapter) n) ≡ rateAfter place n (exchangeOf o) (rate (phyIn (s .adapter) n)))
-          (λ call z. sym (not-set n _ _ (not-granted call request z)))
-          (λ code z l h. sym (not-set n _ _ (granted-code request code h l ∙ ne-eqb code 0 (λ e. omega arith))))
-          (λ r. served-by (s .adapter) medium (control request) body
-          (λ (x : Served). rate (phyIn (x .adapter) n) ≡ rateAfter place n (answerOf x) (rate (phyIn (s .adapter) n)))
-          (λ e. told r e n)
-          (λ e. same (phyIn (s .adapter) n) (phyIn (linkErrors (s .adapter) body .adapter) n) (errors-settings (s .adapter) body (t .phys) few n)
-          ∙ sym (not-21 n _ _ (ne-eqb (control request) setPhyInfo (λ f. omega arith))))
-          (λ e. sym (not-21 n _ _ (ne-eqb (control request) setPhyInfo (λ f. omega arith))))
-          (λ f _. sym (not-21 n _ _ (ne-eqb (control request) setPhyInfo f))))
+        pub rate-step : (n : ℕ)
+            → rate (phyIn (handled s medium request .state .adapter) n) ≡ rateAfter place n (exchangeOf (handled s medium request)) (rate (phyIn (s .adapter) n))
+        rate-step n =
+            handled-by s medium request (λ (o : Outcome). rate (phyIn (o .state .adapter) n) ≡ rateAfter place n (exchangeOf o) (rate (phyIn (s .adapter) n)))
+            (λ call z. sym (not-set n _ _ (not-granted call request z)))
+            (λ code z l h. sym (not-set n _ _ (granted-code request code h l ∙ ne-eqb code 0 (λ e. omega arith))))
+            (λ r. served-by (s .adapter) medium (controlCode request) body
+            (λ (x : Served). rate (phyIn (x .adapter) n) ≡ rateAfter place n (answerOf x) (rate (phyIn (s .adapter) n)))
+            (λ e. told r e n)
+            (λ e. same (phyIn (s .adapter) n) (phyIn (linkErrors (s .adapter) body .adapter) n) (errors-settings (s .adapter) body (t .phys) few n)
+            ∙ sym (not-21 n _ _ (ne-eqb (controlCode request) setPhyInfo (λ f. omega arith))))
+            (λ e. sym (not-21 n _ _ (ne-eqb (controlCode request) setPhyInfo (λ f. omega arith))))
+            (λ f _. sym (not-21 n _ _ (ne-eqb (controlCode request) setPhyInfo f))))

@@ -17,7 +17,7 @@ use Rattle.disk.specs.Laws.{sector, replyStatus, covers}
 use Rattle.passthrough.specs.declared.Selection.{Selection}
 use Rattle.passthrough.specs.Select.{selectBy}
 use Rattle.passthrough.specs.Passthrough.{phyAsked, portAsked, diskOf}
-use Rattle.header.specs.Header.{control, bodyOf}
+use Rattle.header.specs.Header.{controlCode, bodyOf}
 use Rattle.claims.specs.Run.{Reply, Exchange}
 
 -- "granted if the call's number is 0 and the return code it wrote is 0 or 2000", which section 10 has as STATUS_SUCCESS and
@@ -36,7 +36,7 @@ selects file body = selectBy (λ n. portOf (phyAt file n)) (phyCount file) (phyA
 unfoldable pub writesSector : List ℕ → ℕ → ℕ → Exchange → Bool
 writesSector file n k x =
     granted (x .reply)
-    && eqb (control (x .sent)) stpPassthru
+    && eqb (controlCode (x .sent)) stpPassthru
     && eqb (command (bodyOf (x .sent))) 0x30
     && eqb (replyStatus (bodyOf (x .reply .buffer))) 0x50
     && eqb (selects file (bodyOf (x .sent)) .phy .0) n
@@ -63,7 +63,7 @@ lastSector file medium xs n k = sectorBy file n k (sector (diskOf medium n) k) x
 unfoldable pub writesRate : ℕ → ℕ → Exchange → Bool
 writesRate place n x =
     granted (x .reply)
-    && eqb (control (x .sent)) setPhyInfo
+    && eqb (controlCode (x .sent)) setPhyInfo
     && eqb (getD (bodyOf (x .sent)) 0 0) n
     && not (eqb (getD (bodyOf (x .sent)) place 0) 0)
 

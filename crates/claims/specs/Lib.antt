@@ -8,3 +8,5 @@ pub mod Disks
 pub mod Ways
 pub mod Effects
 pub mod Demand3
+pub mod Conversions
+pub mod Starred

@@ -22,14 +22,14 @@ use Rattle.adapter.specs.declared.Adapter.{Adapter}
 use Rattle.adapter.specs.Adapter.{phyIn, withPhy}
 use Rattle.adapter.specs.Store.{phy-stored, phy-other, counts-stored}
 use Rattle.changes.specs.declared.Served.{Served}
-use Rattle.changes.specs.declared.Setting.{Setting}
-use Rattle.changes.specs.Changed.{Changed, changed, served}
+use Rattle.changes.specs.declared.PhySetting.{PhySetting}
+use Rattle.changes.specs.Changed.{Changed, leaves, gives}
 use Rattle.changes.specs.SetPhyInfo.{asked, resulting, parametersHold, ratesHold, linked, setTo, setChecked, setPhy, setPhyInfo}
 use Rattle.changes.specs.LinkErrors.{afterReset, linkErrors, reported}
 
 -- ---- a phy that code 21 sets
 
-module _ (phy : Phy) (s : Setting) (minimum maximum : ℕ) (e : length (phy .entity) ≡ 64) where
+module _ (phy : Phy) (s : PhySetting) (minimum maximum : ℕ) (e : length (phy .entity) ≡ 64) where
   abbrev set : Phy
   set = configured phy (s .class) minimum maximum
 
@@ -92,8 +92,8 @@ unfoldable pub setNow : Phy → List ℕ → Phy
 setNow phy body =
     setTo phy (asked body) (resulting (getD body 2 0) (programmedMinimum phy)) (resulting (getD body 3 0) (programmedMaximum phy))
 
-pub set-by : (ad : Adapter) (body : List ℕ) (P : Served → Type 0) → ((code : ℕ) → 0 < code → code ≤ 2014 → P (served code ad))
-    → (named body < ad .«phy_count» → P (served success (withPhy ad (named body) (setNow (phyIn ad (named body)) body)))) → P (setPhyInfo ad body)
+pub set-by : (ad : Adapter) (body : List ℕ) (P : Served → Type 0) → ((code : ℕ) → 0 < code → code ≤ 2014 → P (gives code ad))
+    → (named body < ad .«phy_count» → P (gives success (withPhy ad (named body) (setNow (phyIn ad (named body)) body)))) → P (setPhyInfo ad body)
 unfolding setPhyInfo setPhy setChecked asked setNow
 set-by ad body P refused done =
     let phy : Phy = phyIn ad (named body) in
@@ -105,9 +105,9 @@ set-by ad body P refused done =
     (refused 3 (omega arith) (omega arith))))
     (λ _. refused 2002 (omega arith) (omega arith))
 
-pub errors-by : (ad : Adapter) (body : List ℕ) (P : Changed → Type 0) → ((code : ℕ) → 0 < code → code ≤ 2014 → P (changed code ad body))
+pub errors-by : (ad : Adapter) (body : List ℕ) (P : Changed → Type 0) → ((code : ℕ) → 0 < code → code ≤ 2014 → P (leaves code ad body))
     → (named body < ad .«phy_count»
-    → P (changed success (afterReset ad (named body) (getD body 1 0)) (reported body (phyIn ad (named body) .counters)))) → P (linkErrors ad body)
+    → P (leaves success (afterReset ad (named body) (getD body 1 0)) (reported body (phyIn ad (named body) .counters)))) → P (linkErrors ad body)
 unfolding linkErrors
 errors-by ad body P refused done =
     either P (leb (getD body 1 0) 1)

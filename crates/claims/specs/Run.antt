@@ -2,16 +2,15 @@
 use mathlib.Core.Bool.{Bool, cond, _&&_}
 use mathlib.Core.List.{List, [], _∷_}
 use Prim.Native.Nat.{ℕ}
-use lib.Dec.{eqb, leb}
+use lib.Dec.{eqb}
 use lib.ListN.{length}
 use Rattle.laws.specs.Splice.{splice}
 use Rattle.codes.specs.Codes.{success, writeAttempted}
 use Rattle.wire.specs.Number.{bytes}
 use Rattle.state.specs.declared.State.{State}
-use Rattle.state.specs.State.{stateHolds}
-use Rattle.state.specs.Open.{mediumSize, openedOf}
+use Rattle.state.specs.Open.{openedOf}
 use Rattle.header.specs.Header.{headerCode, above}
-use Rattle.dispatch.specs.Request.{Outcome, handled}
+use Rattle.dispatch.specs.Request.{Outcome, callNumber, handled}
 
 -- "A reply is the call's number and the whole buffer afterwards"
 pub record Reply : Type 0 where
@@ -33,11 +32,7 @@ pub record Entry : Type 0 where
 -- "A request is denied if it passes all before the level and its need is above it"
 unfoldable pub denied : State → List ℕ → List ℕ → Bool
 denied s medium buffer =
-    stateHolds s
-    && eqb (mediumSize (s .adapter)) (length medium)
-    && leb 28 (length buffer)
-    && eqb (headerCode buffer) success
-    && above (s .level) buffer
+    eqb (callNumber s (length medium) (length buffer)) 0 && eqb (headerCode buffer) success && above (s .level) buffer
 
 -- what a run leaves: the state, the medium, and what went to and fro
 pub record End : Type 0 where

@@ -7,7 +7,7 @@ use native.Mathlib.Omega.{arith}
 use lib.Dec.{eqb, leb, ltb}
 use lib.ListN.{length, getD, take, drop, length-append}
 use lib.Seq.{length-take-le, getD-drop, getD-append-add}
-use borrow.Author.Tests.{ne-eqb, eqb-true, eqb-false, ltb-false}
+use borrow.Author.Tests.{ne-eqb, eqb-true, eqb-false}
 use Rattle.laws.specs.Choice.{either, either-by}
 use Rattle.laws.specs.Splice.{part, splice, part-splice, get-above}
 use Rattle.codes.specs.Codes.{getDriverInfo, getPhyInfo, setPhyInfo, getLinkErrors, stpPassthru, getSataSignature, getScsiAddress, getDeviceAddress, success}
@@ -17,7 +17,7 @@ use Rattle.rows.specs.Row.{deviceIndex, osIndex}
 use Rattle.level.specs.declared.Level.{Level}
 use Rattle.disk.specs.Laws.{replyStatus}
 use Rattle.adapter.specs.declared.Adapter.{Adapter}
-use Rattle.adapter.specs.Adapter.{phyIn}
+use Rattle.adapter.specs.Adapter.{phyIn, mediumSize}
 use Rattle.reports.specs.Report.{Report}
 use Rattle.reports.specs.DriverInfo.{driverInfo}
 use Rattle.reports.specs.PhyInfo.{phyInfo}
@@ -29,13 +29,12 @@ use Rattle.changes.specs.SetPhyInfo.{setPhyInfo as setInfo}
 use Rattle.changes.specs.LinkErrors.{linkErrors}
 use Rattle.passthrough.specs.Passthrough.{passthrough}
 use Rattle.state.specs.declared.State.{State}
-use Rattle.state.specs.State.{stateHolds}
-use Rattle.state.specs.Open.{mediumSize}
 use Rattle.header.specs.Table.{structureSize, dataSize}
-use Rattle.header.specs.Header.{headerLength, control, bodyLength, bodyOf, signatureHolds, lengthHolds, codeChecked, headerCode, above, accessCode}
+use Rattle.header.specs.Header.{headerLength, controlCode, lengthField, bodyOf, signatureHolds, lengthHolds, codeChecked, headerCode, above, accessCode}
 use Rattle.header.specs.Laws.{access-room}
 use Rattle.dispatch.specs.Serve.{Served, unchanged, changed, passed, reportOf, served}
-use Rattle.dispatch.specs.Request.{Outcome, untouched, inBuffer, refused, answered, replied, answeredAt, handled}
+use Rattle.dispatch.specs.Laws.{heard-medium, heard-buffer}
+use Rattle.dispatch.specs.Request.{Outcome, callNumber, untouched, inBuffer, refused, answered, replied, answeredAt, handled}
 use Rattle.claims.specs.Run.{Reply}
 use Rattle.claims.specs.LastWriter.{granted}
 
@@ -78,9 +77,9 @@ unfolding accessCode headerCode codeChecked
 access-code level buffer =
     either Small (eqb (headerCode buffer) success) (either Small (above level buffer) (omega arith) (omega arith))
     (either Small (eqb (headerLength buffer) 28)
-    (either Small (eqb (structureSize (control buffer)) 0) (omega arith)
-    (either Small (signatureHolds (control buffer) buffer)
-    (either Small (lengthHolds (control buffer) (bodyLength buffer) (bodyOf buffer)) (omega arith) (omega arith)) (omega arith)))
+    (either Small (eqb (structureSize (controlCode buffer)) 0) (omega arith)
+    (either Small (signatureHolds (controlCode buffer) buffer)
+    (either Small (lengthHolds (controlCode buffer) (lengthField buffer) (bodyOf buffer)) (omega arith) (omega arith)) (omega arith)))
     (omega arith))
   where
     Small : ℕ → Type 0
@@ -90,33 +89,31 @@ access-code level buffer =
 
 -- what is known where the level was granted
 pub record Ready (s : State) (medium request : List ℕ) : Type 0 where
-  pub holds : stateHolds s ≡ true
-  pub disks : mediumSize (s .adapter) ≡ length medium
+  pub disks : length medium ≡ mediumSize (s .adapter)
   pub long : 28 ≤ length request
-  pub room : structureSize (control request) + dataSize (control request) (bodyOf request) ≤ length (bodyOf request)
+  pub room : structureSize (controlCode request) + dataSize (controlCode request) (bodyOf request) ≤ length (bodyOf request)
 
 pub handled-by : (s : State) (medium request : List ℕ) (P : Outcome → Type 0)
     → ((call : ℕ) → 0 < call → P (untouched call s medium request))
     → ((code : ℕ) → 0 < code → code ≤ 2014 → 28 ≤ length request → P (replied (s .level) (refused code (s .adapter) medium request)))
-    → (Ready s medium request → P (replied (s .level) (inBuffer request (served (s .adapter) medium (control request) (bodyOf request)))))
+    → (Ready s medium request → P (replied (s .level) (inBuffer request (served (s .adapter) medium (controlCode request) (bodyOf request)))))
     → P (handled s medium request)
 unfolding handled answeredAt answered
 handled-by s medium request P number refuse serve =
-    either-by P (stateHolds s)
-    (λ a. either-by P (eqb (mediumSize (s .adapter)) (length medium))
-    (λ b. either-by P (ltb (length request) 28) (λ _. number 100 (omega arith))
-    (λ c. let long : 28 ≤ length request = ltb-false (length request) 28 c in
+    let call : ℕ = callNumber s (length medium) (length request) in
+    either-by P (eqb call 0)
+    (λ z. let e : call ≡ 0 = eqb-true call 0 z in
+    let long : 28 ≤ length request = heard-buffer s (length medium) (length request) call refl e in
     either-by (λ x. P (replied (s .level) x)) (eqb (accessCode (s .level) request) success)
-    (λ z. serve (record {
-      holds = a;
-      disks = eqb-true (mediumSize (s .adapter)) (length medium) b;
+    (λ y. serve (record {
+      disks = heard-medium s (length medium) (length request) call refl e;
       long = long;
-      room = access-room (s .level) request (accessCode (s .level) request) refl (eqb-true (accessCode (s .level) request) success z);
+      room = access-room (s .level) request (accessCode (s .level) request) refl (eqb-true (accessCode (s .level) request) success y);
     }))
-    (λ z. let n : (accessCode (s .level) request ≡ 0 → ⊥) = eqb-false (accessCode (s .level) request) success z in
-    refuse (accessCode (s .level) request) (omega arith) (access-code (s .level) request) long)))
-    (λ _. number 106 (omega arith)))
-    (λ _. number 107 (omega arith))
+    (λ y. let n : (accessCode (s .level) request ≡ 0 → ⊥) = eqb-false (accessCode (s .level) request) success y in
+    refuse (accessCode (s .level) request) (omega arith) (access-code (s .level) request) long))
+    (λ z. let n : (call ≡ 0 → ⊥) = eqb-false call 0 z in
+    number call (omega arith))
 
 -- ---- what the reply tells
 

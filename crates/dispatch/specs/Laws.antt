@@ -1,23 +1,29 @@
 -- What the proofs of this crate cite. Assumes nothing.
-use mathlib.Core.Path.{_≡_, sym, _∙_, ap}
+use mathlib.Core.Path.{_≡_, refl, sym, _∙_, ap}
+use mathlib.Core.Bool.{true, false}
 use mathlib.Core.List.{List, [], _++_, append-nil}
-use Prim.Native.Nat.{ℕ, _+_, _-_, _*_, _≤_}
+use Prim.Native.Nat.{ℕ, _+_, _-_, _≤_}
 use native.Mathlib.Nat.{le-refl, le-trans, le-add-right}
+use native.Mathlib.Omega.{arith}
+use lib.Dec.{eqb, ltb}
 use lib.ListN.{length, take, drop, drop-of-length-le, length-drop}
-use Rattle.laws.specs.Splice.{splice}
+use borrow.Author.Tests.{eqb-true, ltb-false}
+use Rattle.laws.specs.Choice.{came-then, came-else}
+use Rattle.laws.specs.Splice.{splice, rest}
 use Rattle.codes.specs.Codes.{stpPassthru}
 use Rattle.wire.specs.Number.{bytes}
 use Rattle.adapter.specs.declared.Adapter.{Adapter}
 use Rattle.disk.specs.Disk.{dataLength}
 use Rattle.header.specs.Table.{structureSize, dataSize}
-use Rattle.header.specs.Header.{control, bodyOf, accessCode}
-use Rattle.header.specs.Laws.{rest}
+use Rattle.header.specs.Header.{controlCode, bodyOf, accessCode}
 use Rattle.state.specs.declared.State.{State}
-use Rattle.state.specs.Open.{mediumSize}
+use Rattle.state.specs.State.{stateHolds}
+use Rattle.state.specs.Laws.{state-phys, state-rows}
+use Rattle.adapter.specs.Adapter.{mediumSize}
 use Rattle.changes.specs.declared.Served.{Served as Result}
 use Rattle.changes.specs.Changed.{Changed, left}
 use Rattle.dispatch.specs.Serve.{leaves, changed, served}
-use Rattle.dispatch.specs.Request.{outcome, answer, inBuffer, refused, answered, replied, answeredAt}
+use Rattle.dispatch.specs.Request.{outcome, callNumber, untouched, answer, inBuffer, refused, answered, replied, answeredAt}
 
 -- ---- rooms
 
@@ -46,22 +52,49 @@ set-by s t medium body e = ap (λ (r : Result). changed medium (left r body)) e
 
 -- ---- the body, lent as the rest of the buffer
 
-module _ (buffer : List ℕ) (code : ℕ) (e : code ≡ control buffer) where
-  pub body-room : structureSize (control buffer) + dataSize (control buffer) (bodyOf buffer) ≤ length (bodyOf buffer)
+module _ (buffer : List ℕ) (code : ℕ) (e : code ≡ controlCode buffer) where
+  pub body-room : structureSize (controlCode buffer) + dataSize (controlCode buffer) (bodyOf buffer) ≤ length (bodyOf buffer)
       → structureSize code + dataSize code (take (length buffer - 28) (drop 28 buffer)) ≤ length (take (length buffer - 28) (drop 28 buffer))
   body-room h = rw (rest, e) h
 
   pub body-back : (ad : Adapter) (medium medium′ body : List ℕ) (s : Result)
       → leaves (s .code) (s .adapter) medium′ body ≡ served ad medium code (take (length buffer - 28) (drop 28 buffer))
-      → answer s medium′ (take 28 buffer ++ (body ++ drop (length buffer - 28) (drop 28 buffer))) ≡ inBuffer buffer (served ad medium (control buffer) (bodyOf buffer))
+      → answer s medium′ (take 28 buffer ++ (body ++ drop (length buffer - 28) (drop 28 buffer))) ≡ inBuffer buffer (served ad medium (controlCode buffer) (bodyOf buffer))
   body-back ad medium medium′ body s p =
       let q : drop (length buffer - 28) (drop 28 buffer) ≡ [] = drop-of-length-le (drop 28 buffer) {i = length buffer - 28} (rw length-drop (le-refl (length buffer - 28))) in
       rw (q, append-nil) (ap (inBuffer buffer) (rw (rest, e) at p))
 
--- ---- a medium of the right length
+-- ---- a call whose number is 0
 
-pub medium-fits : (ad : Adapter) (medium : List ℕ) (n : ℕ) → n ≡ mediumSize ad → n ≡ length medium → length medium ≡ 8192 * ad .«phy_count»
-medium-fits ad medium n p q = sym q ∙ p
+module _ (s : State) (medium buffer call : ℕ) (e : call ≡ callNumber s medium buffer) (z : call ≡ 0) where
+  -- what is known then
+  heard : (stateHolds s ≡ true) × (eqb (mediumSize (s .adapter)) medium ≡ true) × (ltb buffer 28 ≡ false)
+  unfolding callNumber
+  heard =
+      let a = came-then Zero (stateHolds s) (λ q. omega arith) (sym e ∙ z) in
+      let b = came-then Zero (eqb (mediumSize (s .adapter)) medium) (λ q. omega arith) (a .1) in
+      let c = came-else Zero (ltb buffer 28) (λ q. omega arith) (b .1) in
+      (a .0, b .0, c .0)
+    where
+      Zero : ℕ → Type 0
+      Zero n = n ≡ 0
+
+  pub heard-phys : s .adapter .«phy_count» ≤ 32
+  heard-phys = state-phys s (stateHolds s) refl (heard .0)
+
+  pub heard-rows : s .adapter .«row_count» ≤ 64
+  heard-rows = state-rows s (stateHolds s) refl (heard .0)
+
+  pub heard-medium : medium ≡ mediumSize (s .adapter)
+  heard-medium = sym (eqb-true (mediumSize (s .adapter)) medium (heard .1))
+
+  pub heard-buffer : 28 ≤ buffer
+  heard-buffer = ltb-false buffer 28 (heard .2)
+
+-- a call that gives a number
+pub untouched-by : (call n : ℕ) (s : State) (medium buffer : List ℕ) → call ≡ n
+    → outcome (record { call = call; state = s }) medium buffer ≡ untouched n s medium buffer
+untouched-by call n s medium buffer e = rw e
 
 -- a code that a callee gave
 pub refused-by : (code n : ℕ) (ad : Adapter) (medium buffer : List ℕ) → code ≡ n

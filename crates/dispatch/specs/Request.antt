@@ -1,6 +1,6 @@
 -- One request (document 01, "Request", "From the input", "From the state"): the call's number, the state, the medium and the buffer
 -- that it leaves, after refusals as after success. Assumes nothing.
-use mathlib.Core.Bool.{Bool, cond, _&&_, not}
+use mathlib.Core.Bool.{cond}
 use mathlib.Core.List.{List, _++_}
 use Prim.Native.Nat.{ℕ}
 use lib.Dec.{eqb, ltb}
@@ -13,8 +13,8 @@ use Rattle.adapter.specs.declared.Adapter.{Adapter}
 use Rattle.changes.specs.declared.Served.{Served as Result}
 use Rattle.state.specs.declared.State.{State}
 use Rattle.state.specs.State.{stateHolds}
-use Rattle.state.specs.Open.{mediumSize}
-use Rattle.header.specs.Header.{control, bodyOf, headerCode, above, accessCode}
+use Rattle.adapter.specs.Adapter.{mediumSize}
+use Rattle.header.specs.Header.{controlCode, bodyOf, accessCode}
 use Rattle.dispatch.specs.declared.Handled.{Handled}
 use Rattle.dispatch.specs.Serve.{Served, served}
 
@@ -25,8 +25,14 @@ pub record Outcome : Type 0 where
   pub medium : List ℕ
   pub buffer : List ℕ
 
+-- the same from what the code gives back and what it leaves in the two lent slices
 abbrev pub outcome : Handled → List ℕ → List ℕ → Outcome
 outcome h medium buffer = record { call = h .call; state = h .state; medium = medium; buffer = buffer }
+
+-- "state; medium length; buffer of 28 bytes": the call's number of the first that fails, or 0
+unfoldable pub callNumber : State → ℕ → ℕ → ℕ
+callNumber s medium buffer =
+    cond (stateHolds s) (cond (eqb (mediumSize (s .adapter)) medium) (cond (ltb buffer 28) shortBuffer 0) mediumLength) badState
 
 -- "with any other [number], buffer, state and medium are untouched"
 abbrev pub untouched : ℕ → State → List ℕ → List ℕ → Outcome
@@ -39,6 +45,7 @@ pub record Answer : Type 0 where
   pub medium : List ℕ
   pub buffer : List ℕ
 
+-- the same from what the code gives back and what it leaves in the two lent slices
 abbrev pub answer : Result → List ℕ → List ℕ → Answer
 answer s medium buffer = record { code = s .code; adapter = s .adapter; medium = medium; buffer = buffer }
 
@@ -46,29 +53,26 @@ answer s medium buffer = record { code = s .code; adapter = s .adapter; medium =
 abbrev pub inBuffer : List ℕ → Served → Answer
 inBuffer buffer s = record { code = s .code; adapter = s .adapter; medium = s .medium; buffer = take 28 buffer ++ s .body }
 
--- "A refused request changes the four bytes of its return code": nothing else yet
+-- a request that a check up to the level refuses: nothing is changed but the code, which is still to be written
 abbrev pub refused : ℕ → Adapter → List ℕ → List ℕ → Answer
 refused code ad medium buffer = record { code = code; adapter = ad; medium = medium; buffer = buffer }
 
--- "level; then the code's own checks"
+-- "then the code's own checks", where the checks up to the level gave 0; else their code
 unfoldable pub answered : Adapter → List ℕ → List ℕ → ℕ → Answer
 answered ad medium buffer code =
-    cond (eqb code success) (inBuffer buffer (served ad medium (control buffer) (bodyOf buffer))) (refused code ad medium buffer)
+    cond (eqb code success) (inBuffer buffer (served ad medium (controlCode buffer) (bodyOf buffer))) (refused code ad medium buffer)
 
--- "the return code is bytes 20–23", and "the call's number is 0 when a return code is written"
+-- "the return code is bytes 20–23", and "The call's number is 0 when a return code is written"
 abbrev pub replied : Level → Answer → Outcome
 replied level a =
     record { call = 0; state = record { level = level; adapter = a .adapter }; medium = a .medium; buffer = splice (a .buffer) 20 (bytes 4 (a .code)) }
 
--- a buffer with a header
+-- a buffer of 28 bytes or more: the checks from HeaderLength on, and the return code written
 unfoldable pub answeredAt : State → List ℕ → List ℕ → Outcome
 answeredAt s medium buffer = replied (s .level) (answered (s .adapter) medium buffer (accessCode (s .level) buffer))
 
--- "Checks, in order: state; medium length; buffer of 28 bytes; .."
+-- "Checks, in order: state; medium length; buffer of 28 bytes; HeaderLength 28; .."
 unfoldable pub handled : State → List ℕ → List ℕ → Outcome
 handled s medium buffer =
-    cond (stateHolds s)
-    (cond (eqb (mediumSize (s .adapter)) (length medium))
-    (cond (ltb (length buffer) 28) (untouched shortBuffer s medium buffer) (answeredAt s medium buffer))
-    (untouched mediumLength s medium buffer))
-    (untouched badState s medium buffer)
+    cond (eqb (callNumber s (length medium) (length buffer)) 0) (answeredAt s medium buffer)
+    (untouched (callNumber s (length medium) (length buffer)) s medium buffer)

@@ -24,20 +24,23 @@ pub record Served : Type 0 where
   pub medium : List ℕ
   pub body : List ℕ
 
+-- the four together
 abbrev pub leaves : ℕ → Adapter → List ℕ → List ℕ → Served
 leaves code ad medium body = record { code = code; adapter = ad; medium = medium; body = body }
 
--- one that only reports, one that sees no disk, and one that changes no table
+-- a request that only reports changes no table
 abbrev pub unchanged : Adapter → Report → Changed
 unchanged ad r = record { code = r .code; adapter = ad; body = r .body }
 
+-- one that sees no disk
 abbrev pub changed : List ℕ → Changed → Served
 changed medium c = leaves (c .code) (c .adapter) medium (c .body)
 
+-- one that changes no table
 abbrev pub passed : Adapter → Passed → Served
 passed ad p = leaves (p .code) ad (p .medium) (p .body)
 
--- codes 1, 20, 26, 27 and 28
+-- codes 1, 20, 26, 27 and 28; no other comes here, since the header's checks refuse it
 unfoldable pub reportOf : Adapter → ℕ → List ℕ → Report
 reportOf ad control body =
     cond (eqb control getDriverInfo) (driverInfo (ad .info) body)

@@ -1,5 +1,6 @@
 // The two calls of the simulator (document 01, "A SAS host adapter as a console sees it"): opening an adapter, and handling one
-// request. Each is determined by equation from its inputs, after refusals as after success, and neither has a `requires`.
+// request. Each is determined by equation from its inputs, after refusals as after success, and neither has a `requires`. The opening only
+// reads the medium.
 mod handle;
 mod serve;
 
@@ -8,7 +9,7 @@ pub use state::Opened;
 pub use state::State;
 pub use state::open;
 
-// What a call gives back: its number and the state.
+// What a request gives back: the call's number and the state.
 pub struct Handled {
     pub call: u32,
     pub state: State,

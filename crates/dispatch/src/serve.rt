@@ -2,8 +2,9 @@
 use adapter::Adapter;
 use changes::Served;
 ghost use mathlib.Core.Path.{_≡_};
-ghost use Prim.Native.Nat.{_+_, _*_, _≤_};
+ghost use Prim.Native.Nat.{_+_, _≤_};
 ghost use lib.ListN.{length};
+ghost use Rattle.adapter.specs.Adapter.{mediumSize};
 ghost use Rattle.reports.specs.Report.{report};
 ghost use Rattle.reports.specs.DriverInfo.{driverInfo};
 ghost use Rattle.reports.specs.PhyInfo.{phyInfo};
@@ -71,6 +72,7 @@ fn report(adapter: Adapter, control: u32, body: &mut [u8]) -> u32
     if control == codes::GET_DEVICE_ADDRESS {
         return device_address(adapter, body);
     }
+    // not reached: the header's checks refuse every other code
     codes::BAD_CONTROL_CODE
 }
 
@@ -86,7 +88,7 @@ fn serve_report(adapter: Adapter, control: u32, body: &mut [u8]) -> Served
 
 fn serve_passthrough(adapter: Adapter, medium: &mut [u8], body: &mut [u8]) -> Served
     requires { ⌜ adapter .«phy_count» ≤ 32 ⌝ }
-    requires { ⌜ length (now medium) ≡ 8192 * adapter .«phy_count» ⌝ }
+    requires { ⌜ length (now medium) ≡ mediumSize adapter ⌝ }
     requires { ⌜ 136 + dataLength (now body) ≤ length (now body) ⌝ }
     ensures { λ s. ⌜ leaves (s .code) (s .adapter) (now (medium .exit)) (now (body .exit)) ≡ passed adapter (passthrough adapter (now (medium .entry)) (now (body .entry))) ⌝ }
 {
@@ -98,7 +100,7 @@ fn serve_passthrough(adapter: Adapter, medium: &mut [u8], body: &mut [u8]) -> Se
 pub fn serve(adapter: Adapter, medium: &mut [u8], control: u32, body: &mut [u8]) -> Served
     requires { ⌜ adapter .«phy_count» ≤ 32 ⌝ }
     requires { ⌜ adapter .«row_count» ≤ 64 ⌝ }
-    requires { ⌜ length (now medium) ≡ 8192 * adapter .«phy_count» ⌝ }
+    requires { ⌜ length (now medium) ≡ mediumSize adapter ⌝ }
     requires { ⌜ structureSize control + dataSize control (now body) ≤ length (now body) ⌝ }
     ensures { λ s. ⌜ leaves (s .code) (s .adapter) (now (medium .exit)) (now (body .exit)) ≡ served adapter (now (medium .entry)) control (now (body .entry)) ⌝ }
 {

@@ -1,5 +1,5 @@
--- The header of a request, SRB_IO_CONTROL (4.1.3.1), and the checks up to the level (document 01, "Request"). The body is the buffer
--- behind the header's 28 bytes. Assumes nothing.
+-- The header of a request and the checks up to the level (document 01, "Request"): "A buffer starts with the 28-byte SRB_IO_CONTROL
+-- (4.1.3.1)". The body is what stands behind it. Assumes nothing.
 use mathlib.Core.Bool.{Bool, cond, _&&_}
 use mathlib.Core.List.{List}
 use Prim.Native.Nat.{ℕ, _+_}
@@ -10,23 +10,27 @@ use Rattle.codes.specs.Codes.{success, badControlCode, invalidParameter, writeA
 use Rattle.wire.specs.Number.{number}
 use Rattle.wire.specs.Same.{sameBytes}
 use Rattle.level.specs.declared.Level.{Level}
-use Rattle.header.specs.Table.{structureSize, dataSize, isAll, csmiAll, csmiSas, need}
+use Rattle.header.specs.Table.{structureSize, dataSize, signedAll, csmiAll, csmiSas, need}
 
 -- ---- its fields
 
+-- HeaderLength
 abbrev pub headerLength : List ℕ → ℕ
 headerLength buffer = number (part buffer 0 4)
 
+-- Signature
 abbrev pub signature : List ℕ → List ℕ
 signature buffer = part buffer 4 8
 
-abbrev pub control : List ℕ → ℕ
-control buffer = number (part buffer 16 4)
+-- ControlCode
+abbrev pub controlCode : List ℕ → ℕ
+controlCode buffer = number (part buffer 16 4)
 
 -- Length
-abbrev pub bodyLength : List ℕ → ℕ
-bodyLength buffer = number (part buffer 24 4)
+abbrev pub lengthField : List ℕ → ℕ
+lengthField buffer = number (part buffer 24 4)
 
+-- what stands behind the header
 abbrev pub bodyOf : List ℕ → List ℕ
 bodyOf buffer = drop 28 buffer
 
@@ -34,29 +38,29 @@ bodyOf buffer = drop 28 buffer
 
 -- "signature (CSMIALL for code 1, CSMISAS for the rest, then a zero byte)"
 unfoldable pub signatureHolds : ℕ → List ℕ → Bool
-signatureHolds control buffer = cond (isAll control) (sameBytes (signature buffer) csmiAll) (sameBytes (signature buffer) csmiSas)
+signatureHolds code buffer = cond (signedAll code) (sameBytes (signature buffer) csmiAll) (sameBytes (signature buffer) csmiSas)
 
 -- "Length at least the structure's size without header (for 25: without bDataBuffer, plus uDataLength) and 28 + Length inside the
 -- buffer", which is Length inside the body
 unfoldable pub lengthHolds : ℕ → ℕ → List ℕ → Bool
-lengthHolds control n body = leb (structureSize control + dataSize control body) n && leb n (length body)
+lengthHolds code n body = leb (structureSize code + dataSize code body) n && leb n (length body)
 
--- "code known; signature; Length": the return code of the first that fails, or 0
+-- "code known; signature ..; Length ..": the return code of the first that fails, or 0
 unfoldable pub codeChecked : ℕ → List ℕ → ℕ
-codeChecked control buffer =
-    cond (eqb (structureSize control) 0) badControlCode
-    (cond (signatureHolds control buffer)
-    (cond (lengthHolds control (bodyLength buffer) (bodyOf buffer)) success invalidParameter)
+codeChecked code buffer =
+    cond (eqb (structureSize code) 0) badControlCode
+    (cond (signatureHolds code buffer)
+    (cond (lengthHolds code (lengthField buffer) (bodyOf buffer)) success invalidParameter)
     badControlCode)
 
 -- "HeaderLength 28", and then those
 unfoldable pub headerCode : List ℕ → ℕ
-headerCode buffer = cond (eqb (headerLength buffer) 28) (codeChecked (control buffer) buffer) invalidParameter
+headerCode buffer = cond (eqb (headerLength buffer) 28) (codeChecked (controlCode buffer) buffer) invalidParameter
 
--- its need is above the level
+-- "its need is above it"
 unfoldable pub above : Level → List ℕ → Bool
-above level buffer = ltb (level .0) (need (control buffer) (bodyOf buffer) .0)
+above level buffer = ltb (level .0) (need (controlCode buffer) (bodyOf buffer) .0)
 
--- "..; level"
+-- "level": 4 where "its need is above it"; else what the checks before it gave
 unfoldable pub accessCode : Level → List ℕ → ℕ
 accessCode level buffer = cond (eqb (headerCode buffer) success) (cond (above level buffer) writeAttempted success) (headerCode buffer)

@@ -1,19 +1,19 @@
 -- What the proofs of this crate and the layers above cite. Assumes nothing.
-use mathlib.Core.Path.{_≡_, refl, sym, _∙_, ap}
+use mathlib.Core.Path.{_≡_, refl, sym, _∙_}
 use mathlib.Core.Bool.{Bool, true, false, cond, _&&_}
 use mathlib.Core.List.{List}
 use Prim.Native.Nat.{ℕ, _+_, _-_, _<_, _≤_}
 use native.Mathlib.Nat.{le-trans}
 use native.Mathlib.Omega.{arith}
 use lib.Dec.{eqb, leb, ltb}
-use lib.ListN.{length, take, drop, length-drop}
-use lib.Seq.{take-length}
+use lib.ListN.{length, take, drop}
 use borrow.Author.Tests.{lt-leb, le-leb, leb-true, eqb-true}
 use Rattle.laws.specs.Choice.{by-bool, both-left, both-right, came-then, came-else}
-use Rattle.codes.specs.Codes.{stpPassthru}
+use Rattle.laws.specs.Splice.{rest}
+use Rattle.codes.specs.Codes.{stpPassthru, success, writeAttempted}
 use Rattle.level.specs.declared.Level.{Level}
 use Rattle.header.specs.Table.{structureSize, dataSize, need}
-use Rattle.header.specs.Header.{headerLength, control, bodyLength, bodyOf, signatureHolds, lengthHolds, codeChecked, headerCode, above, accessCode}
+use Rattle.header.specs.Header.{headerLength, controlCode, lengthField, bodyOf, signatureHolds, lengthHolds, codeChecked, headerCode, above, accessCode}
 
 -- a code 25 whose structure is there has its fixed part
 pub passthrough-room : (control k n : ℕ) → control ≡ stpPassthru → structureSize control ≤ n → k ≤ 136 → k ≤ n
@@ -22,18 +22,15 @@ passthrough-room control k n e h l = le-trans l (rw e at h)
 
 -- ---- the body, lent as the rest of the buffer
 
-pub rest : (b : List ℕ) (k : ℕ) → take (length b - k) (drop k b) ≡ drop k b
-rest b k = ap (λ (n : ℕ). take n (drop k b)) (sym (length-drop k b)) ∙ take-length (drop k b)
-
 module _ (buffer : List ℕ) (code : ℕ) where
   pub length-by : (n m : ℕ) (r : Bool) → m ≡ n → r ≡ lengthHolds code m (take (length buffer - 28) (drop 28 buffer)) → r ≡ lengthHolds code n (bodyOf buffer)
   length-by n m r e p = p ∙ rw (rest, e)
 
-  pub room-by : code ≡ control buffer → structureSize (control buffer) ≤ length (bodyOf buffer)
+  pub room-by : code ≡ controlCode buffer → structureSize (controlCode buffer) ≤ length (bodyOf buffer)
       → structureSize code ≤ length (take (length buffer - 28) (drop 28 buffer))
   room-by e h = rw (rest, e) h
 
-  pub above-by : (level n : Level) → code ≡ control buffer → n ≡ need code (take (length buffer - 28) (drop 28 buffer)) → ltb (level .0) (n .0) ≡ above level buffer
+  pub above-by : (level n : Level) → code ≡ controlCode buffer → n ≡ need code (take (length buffer - 28) (drop 28 buffer)) → ltb (level .0) (n .0) ≡ above level buffer
   unfolding above
   above-by level n e p = rw (p, rest, e)
 
@@ -74,21 +71,21 @@ Passes : ℕ → Type 0
 Passes code = code ≡ 0
 
 pub record Header (buffer : List ℕ) : Type 0 where
-  pub known : eqb (structureSize (control buffer)) 0 ≡ false
-  pub signed : signatureHolds (control buffer) buffer ≡ true
-  pub room : structureSize (control buffer) + dataSize (control buffer) (bodyOf buffer) ≤ length (bodyOf buffer)
+  pub known : eqb (structureSize (controlCode buffer)) 0 ≡ false
+  pub signed : signatureHolds (controlCode buffer) buffer ≡ true
+  pub room : structureSize (controlCode buffer) + dataSize (controlCode buffer) (bodyOf buffer) ≤ length (bodyOf buffer)
 
 pub header-passed : (buffer : List ℕ) → headerCode buffer ≡ 0 → Header buffer
 unfolding headerCode codeChecked Passes
 header-passed buffer h =
     let a = came-then Passes (eqb (headerLength buffer) 28) (λ e. omega arith) h in
-    let b = came-else Passes (eqb (structureSize (control buffer)) 0) (λ e. omega arith) (a .1) in
-    let c = came-then Passes (signatureHolds (control buffer) buffer) (λ e. omega arith) (b .1) in
-    let d = came-then Passes (lengthHolds (control buffer) (bodyLength buffer) (bodyOf buffer)) (λ e. omega arith) (c .1) in
-    record { known = b .0; signed = c .0; room = length-room (control buffer) (bodyLength buffer) (bodyOf buffer) (d .0) }
+    let b = came-else Passes (eqb (structureSize (controlCode buffer)) 0) (λ e. omega arith) (a .1) in
+    let c = came-then Passes (signatureHolds (controlCode buffer) buffer) (λ e. omega arith) (b .1) in
+    let d = came-then Passes (lengthHolds (controlCode buffer) (lengthField buffer) (bodyOf buffer)) (λ e. omega arith) (c .1) in
+    record { known = b .0; signed = c .0; room = length-room (controlCode buffer) (lengthField buffer) (bodyOf buffer) (d .0) }
 
 -- the same of a callee's answer
-pub structure-room : (buffer : List ℕ) (code : ℕ) → code ≡ headerCode buffer → code ≡ 0 → structureSize (control buffer) ≤ length (bodyOf buffer)
+pub structure-room : (buffer : List ℕ) (code : ℕ) → code ≡ headerCode buffer → code ≡ 0 → structureSize (controlCode buffer) ≤ length (bodyOf buffer)
 structure-room buffer code e z = omega (arith, header-passed buffer (sym e ∙ z) .room)
 
 -- ---- a level that was granted
@@ -96,9 +93,9 @@ structure-room buffer code e z = omega (arith, header-passed buffer (sym e ∙ z
 pub access-header : (level : Level) (buffer : List ℕ) → accessCode level buffer ≡ 0 → headerCode buffer ≡ 0
 unfolding accessCode
 access-header level buffer h =
-    by-bool (λ (b : Bool). eqb (headerCode buffer) 0 ≡ b → cond b (cond (above level buffer) 4 0) (headerCode buffer) ≡ 0 → headerCode buffer ≡ 0)
+    by-bool (λ (b : Bool). eqb (headerCode buffer) 0 ≡ b → cond b (cond (above level buffer) writeAttempted success) (headerCode buffer) ≡ 0 → headerCode buffer ≡ 0)
     (λ e _. eqb-true (headerCode buffer) 0 e) (λ _ z. z) (eqb (headerCode buffer) 0) refl h
 
 pub access-room : (level : Level) (buffer : List ℕ) (code : ℕ) → code ≡ accessCode level buffer → code ≡ 0
-    → structureSize (control buffer) + dataSize (control buffer) (bodyOf buffer) ≤ length (bodyOf buffer)
+    → structureSize (controlCode buffer) + dataSize (controlCode buffer) (bodyOf buffer) ≤ length (bodyOf buffer)
 access-room level buffer code e z = header-passed buffer (access-header level buffer (sym e ∙ z)) .room

@@ -35,9 +35,11 @@ csmiAll = ascii "CSMIALL" ++ (0 ∷ [])
 abbrev pub csmiSas : List ℕ
 csmiSas = ascii "CSMISAS" ++ (0 ∷ [])
 
-unfoldable pub isAll : ℕ → Bool
-isAll control = eqb control getDriverInfo
+-- "for code 1"
+unfoldable pub signedAll : ℕ → Bool
+signedAll control = eqb control getDriverInfo
 
--- "codes 1, 20, 22, 26, 27, 28 Restricted; 21 Full. Code 25 takes the need of .. byte 2 of the command FIS"
+-- "codes 1, 20, 22, 26, 27, 28 Restricted; 21 Full. .. Code 25 takes the need of each of the 256 command codes, byte 2 of the command
+-- FIS"
 unfoldable pub need : ℕ → List ℕ → Level
 need control body = cond (eqb control setPhyInfo) full (cond (eqb control stpPassthru) (needOf (command body)) restricted)

@@ -1,20 +1,20 @@
 // The checks on a header, in document 01's order.
 use crate::table::data_size;
-use crate::table::is_all;
 use crate::table::need;
+use crate::table::signed_all;
 use crate::table::structure_size;
 use level::Level;
 ghost use mathlib.Core.Path.{_≡_};
 ghost use Prim.Native.Nat.{_+_, _≤_};
 ghost use lib.Dec.{eqb, leb};
-ghost use lib.ListN.{length, drop};
+ghost use lib.ListN.{length};
 ghost use Rattle.header.specs.Table.{structureSize, dataSize};
-ghost use Rattle.header.specs.Header.{headerLength, control, bodyLength, bodyOf, signatureHolds, lengthHolds, codeChecked, headerCode, above, accessCode};
+ghost use Rattle.header.specs.Header.{headerLength, controlCode, lengthField, bodyOf, signatureHolds, lengthHolds, codeChecked, headerCode, above, accessCode};
 
 // The control code of a request.
 pub fn control_code(buffer: &[u8]) -> u32
     requires { ⌜ 28 ≤ length (now buffer) ⌝ }
-    ensures { λ r. ⌜ r ≡ control (now (buffer .entry)) ⌝ }
+    ensures { λ r. ⌜ r ≡ controlCode (now (buffer .entry)) ⌝ }
 {
     wire::read32(buffer, 16)
 }
@@ -29,7 +29,7 @@ fn header_length(buffer: &[u8]) -> u32
 fn signature_holds(control: u32, buffer: &[u8]) -> bool
     ensures { λ r. ⌜ r ≡ signatureHolds control (now (buffer .entry)) ⌝ }
 {
-    if is_all(control) {
+    if signed_all(control) {
         return wire::same_at(buffer, 4, b"CSMIALL\0");
     }
     wire::same_at(buffer, 4, b"CSMISAS\0")
@@ -65,7 +65,7 @@ fn length_holds(control: u32, n: u32, body: &[u8]) -> bool
 
 fn body_length_holds(control: u32, buffer: &[u8]) -> bool
     requires { ⌜ 28 ≤ length (now buffer) ⌝ }
-    ensures { λ r. ⌜ r ≡ lengthHolds control (bodyLength (now (buffer .entry))) (bodyOf (now (buffer .entry))) ⌝ }
+    ensures { λ r. ⌜ r ≡ lengthHolds control (lengthField (now (buffer .entry))) (bodyOf (now (buffer .entry))) ⌝ }
 {
     length_holds(control, wire::read32(buffer, 24), &buffer[28..])
 }
@@ -94,12 +94,12 @@ fn check_code(control: u32, buffer: &[u8]) -> u32
 
 fn check_control(buffer: &[u8]) -> u32
     requires { ⌜ 28 ≤ length (now buffer) ⌝ }
-    ensures { λ r. ⌜ r ≡ codeChecked (control (now (buffer .entry))) (now (buffer .entry)) ⌝ }
+    ensures { λ r. ⌜ r ≡ codeChecked (controlCode (now (buffer .entry))) (now (buffer .entry)) ⌝ }
 {
     check_code(control_code(buffer), buffer)
 }
 
-// The return code of the first check before the level that fails, or 0.
+// Of the checks before the level, the return code of the first that fails, or 0.
 fn header_code(buffer: &[u8]) -> u32
     requires { ⌜ 28 ≤ length (now buffer) ⌝ }
     ensures { λ r. ⌜ r ≡ headerCode (now (buffer .entry)) ⌝ }
@@ -112,7 +112,7 @@ fn header_code(buffer: &[u8]) -> u32
 
 fn is_above(level: Level, buffer: &[u8]) -> bool
     requires { ⌜ 28 ≤ length (now buffer) ⌝ }
-    requires { ⌜ structureSize (control (now buffer)) ≤ length (bodyOf (now buffer)) ⌝ }
+    requires { ⌜ structureSize (controlCode (now buffer)) ≤ length (bodyOf (now buffer)) ⌝ }
     ensures { λ r. ⌜ r ≡ above level (now (buffer .entry)) ⌝ }
 {
     let need = need(control_code(buffer), &buffer[28..]);
@@ -133,7 +133,7 @@ fn access(level: Level, code: u32, buffer: &[u8]) -> u32
     code
 }
 
-// The return code of the first check up to the level that fails, or 0.
+// Of the checks up to the level, the return code of the first that fails, or 0.
 pub fn access_code(level: Level, buffer: &[u8]) -> u32
     requires { ⌜ 28 ≤ length (now buffer) ⌝ }
     ensures { λ r. ⌜ r ≡ accessCode level (now (buffer .entry)) ⌝ }

@@ -3,7 +3,7 @@ use level::Level;
 ghost use mathlib.Core.Path.{_≡_};
 ghost use Prim.Native.Nat.{_≤_};
 ghost use lib.ListN.{length};
-ghost use Rattle.header.specs.Table.{structureSize, dataSize, isAll, need};
+ghost use Rattle.header.specs.Table.{structureSize, dataSize, signedAll, need};
 
 // The size of a code's structure without the header, and 0 of a code that is unknown.
 pub fn structure_size(control: u32) -> u32
@@ -48,8 +48,8 @@ pub fn data_size(control: u32, body: &[u8]) -> u32
 }
 
 // The signature is CSMIALL, and not CSMISAS.
-pub fn is_all(control: u32) -> bool
-    ensures { λ r. ⌜ r ≡ isAll control ⌝ }
+pub fn signed_all(control: u32) -> bool
+    ensures { λ r. ⌜ r ≡ signedAll control ⌝ }
 {
     control == codes::GET_DRIVER_INFO
 }

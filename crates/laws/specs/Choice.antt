@@ -6,7 +6,7 @@
 --
 -- and each `return` is proved by `search picks`, with the definition opened. Assumes nothing.
 use mathlib.Core.Path.{_≡_, refl, sym, _∙_, subst}
-use mathlib.Core.Bool.{Bool, true, false, cond, _&&_, false≢true}
+use mathlib.Core.Bool.{Bool, true, false, cond, _&&_, not, false≢true}
 use Prim.Native.Nat.{ℕ}
 use lib.Dec.{eqb}
 use borrow.Author.Tests.{lt-ltb, le-ltb, le-leb, lt-leb, eq-eqb, ne-eqb}
@@ -32,6 +32,13 @@ ne-by r n k p h = ne-eqb n k (λ q. h (p ∙ q))
 
 pub ruleset picks = (if-true, if-false, flag, eq-by, ne-by, lt-ltb, le-ltb, le-leb, lt-leb, eq-eqb, ne-eqb)
 
+-- a test and then another
+pub and-then : (t b r : Bool) → t ≡ true → r ≡ b → r ≡ t && b
+and-then t b r e p = rw e p
+
+pub and-not : (t b : Bool) → t ≡ false → false ≡ t && b
+and-not t b e = rw e refl
+
 -- two tests that both hold
 pub both : (a b : Bool) → a ≡ true → b ≡ true → a && b ≡ true
 both a b p q = rw p q
@@ -43,6 +50,10 @@ both-left false b p = p
 pub both-right : (a b : Bool) → a && b ≡ true → b ≡ true
 both-right true b p = p
 both-right false b p = absurd (false≢true p)
+
+pub not-false : (b : Bool) → not b ≡ false → b ≡ true
+not-false true h = refl
+not-false false h = absurd (false≢true (sym h))
 
 -- by cases on a test whose value the goal mentions
 pub by-bool {ℓ} : (P : Bool → Type ℓ) → P true → P false → (b : Bool) → P b

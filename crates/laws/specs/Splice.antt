@@ -41,6 +41,10 @@ module _ {A : Type 0} where
   unfolding part
   part-none l at = refl
 
+  -- the rest of a list, as it is lent
+  pub rest : (l : List A) (k : ℕ) → take (length l - k) (drop k l) ≡ drop k l
+  rest l k = ap (λ (n : ℕ). take n (drop k l)) (sym (length-drop k l)) ∙ take-length (drop k l)
+
   -- a part of a part
   pub part-part : (l : List A) (a n b m : ℕ) → b + m ≤ n → part (part l a n) b m ≡ part l (a + b) m
   unfolding part

@@ -1,6 +1,6 @@
 -- What a selection tells, and what the proofs of this crate cite. Assumes nothing.
-use mathlib.Core.Path.{_≡_, refl, sym, _∙_, ap}
-use mathlib.Core.Bool.{Bool, true, false, cond, _&&_, not, true≢false}
+use mathlib.Core.Path.{_≡_, refl, _∙_, ap}
+use mathlib.Core.Bool.{Bool, true, false, cond, _&&_, not}
 use mathlib.Core.List.{List, _++_}
 use Prim.Native.Nat.{ℕ, _+_, _-_, _*_, _<_, _≤_}
 use native.Mathlib.Nat.{add-sub-cancel-left}
@@ -8,16 +8,17 @@ use native.Mathlib.Omega.{arith}
 use lib.Dec.{eqb, leb}
 use lib.ListN.{length, take, drop}
 use borrow.Author.Tests.{le-leb, leb-false}
-use Rattle.laws.specs.Choice.{by-bool, either-by, came-else}
+use Rattle.laws.specs.Choice.{by-bool, not-false, either-by, came-else}
 use Rattle.laws.specs.Splice.{part, length-part, lent-back}
 use Rattle.codes.specs.Codes.{selectPhyOrPort, phyDoesNotExist, portDoesNotExist, phyDoesNotMatchPort}
 use Rattle.phy.specs.declared.PhyIdentifier.{PhyIdentifier}
 use Rattle.phy.specs.declared.PortIdentifier.{PortIdentifier}
 use Rattle.adapter.specs.declared.Adapter.{Adapter}
+use Rattle.adapter.specs.Adapter.{mediumSize}
 use Rattle.disk.specs.Disk.{dataLength, left, served, Served}
 use Rattle.disk.specs.Laws.{disk-length}
 use Rattle.passthrough.specs.declared.Selection.{Selection}
-use Rattle.passthrough.specs.Passthrough.{passed, putBack, onDisk}
+use Rattle.passthrough.specs.Passthrough.{leaves, putBack, onDisk}
 use Rattle.passthrough.specs.Select.{phyGiven, portGiven, selected, none, selection, selectBy, selectIn}
 
 -- ---- a phy that does not exist has no port to look at
@@ -37,10 +38,6 @@ selection-past phy port p lowest own own′ r h e =
         (cond g (selected phy) (selected (record { 0 = lowest }))))))
 
 -- ---- a phy that was selected is below p
-
-not-false : (b : Bool) → not b ≡ false → b ≡ true
-not-false true h = refl
-not-false false h = absurd (true≢false h)
 
 Accepts : Selection → Type 0
 Accepts s = s .code ≡ 0
@@ -67,14 +64,14 @@ module _ (ad : Adapter) (phy : PhyIdentifier) (port : PortIdentifier) (s : Selec
   selected-phy k = omega (arith, below)
 
   -- its disk stands within the medium
-  pub selected-disk : (medium : List ℕ) → length medium ≡ 8192 * ad .«phy_count» → 8192 * s .phy .0 + 8192 ≤ length medium
+  pub selected-disk : (medium : List ℕ) → length medium ≡ mediumSize ad → 8192 * s .phy .0 + 8192 ≤ length medium
   selected-disk medium k = omega (arith, below)
 
 -- ---- a disk that was lent
 
 pub on-disk-left : (medium body : List ℕ) (n code : ℕ) (d b : List ℕ) → 8192 * n + 8192 ≤ length medium → 136 + dataLength body ≤ length body
     → left code d b ≡ served (take (8192 * n + 8192 - 8192 * n) (drop (8192 * n) medium)) body
-    → passed code (take (8192 * n) medium ++ (d ++ drop (8192 * n + 8192 - 8192 * n) (drop (8192 * n) medium))) b ≡ onDisk medium n body
+    → leaves code (take (8192 * n) medium ++ (d ++ drop (8192 * n + 8192 - 8192 * n) (drop (8192 * n) medium))) b ≡ onDisk medium n body
 unfolding onDisk part
 on-disk-left medium body n code d b h k e =
     let q : left code d b ≡ served (take 8192 (drop (8192 * n) medium)) body = rw add-sub-cancel-left at e in

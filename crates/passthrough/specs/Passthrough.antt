@@ -23,11 +23,13 @@ pub record Passed : Type 0 where
   pub medium : List ℕ
   pub body : List ℕ
 
-abbrev pub passed : ℕ → List ℕ → List ℕ → Passed
-passed code medium body = record { code = code; medium = medium; body = body }
+-- the three together
+abbrev pub leaves : ℕ → List ℕ → List ℕ → Passed
+leaves code medium body = record { code = code; medium = medium; body = body }
 
--- ---- the fields of the body
+-- ---- the fields of the body. "uFlags is not read"
 
+-- the phy and the port that it names
 abbrev pub phyAsked : List ℕ → PhyIdentifier
 phyAsked body = record { 0 = getD body 0 0 }
 
@@ -35,9 +37,10 @@ abbrev pub portAsked : List ℕ → PortIdentifier
 portAsked body = record { 0 = getD body 1 0 }
 
 -- the connection rate
-abbrev pub rateOf : List ℕ → ℕ
-rateOf body = getD body 2 0
+abbrev pub connectionRate : List ℕ → ℕ
+connectionRate body = getD body 2 0
 
+-- the destination
 abbrev pub destinationOf : List ℕ → List ℕ
 destinationOf body = part body 4 8
 
@@ -59,22 +62,22 @@ diskOf medium n = part medium (8192 * n) 8192
 
 -- what a served command leaves, with the disk back in its place
 abbrev pub putBack : List ℕ → ℕ → Served → Passed
-putBack medium n s = passed (s .code) (splice medium (8192 * n) (s .disk)) (s .body)
+putBack medium n s = leaves (s .code) (splice medium (8192 * n) (s .disk)) (s .body)
 
 -- "Then the disk"
 unfoldable pub onDisk : List ℕ → ℕ → List ℕ → Passed
 onDisk medium n body = putBack medium n (served (diskOf medium n) body)
 
--- "otherwise 2009, for every device type"
-unfoldable pub connectedTo : Adapter → List ℕ → List ℕ → ℕ → Passed
-connectedTo ad medium body n =
-    cond (connected (phyIn ad n) (rateOf body) (destinationOf body)) (onDisk medium n body) (passed connectionFailed medium body)
+-- "otherwise 2009, for every device type": CONNECTION_FAILED, which section 10 numbers 2008
+unfoldable pub sentTo : Adapter → List ℕ → List ℕ → ℕ → Passed
+sentTo ad medium body n =
+    cond (connected (phyIn ad n) (connectionRate body) (destinationOf body)) (onDisk medium n body) (leaves connectionFailed medium body)
 
 -- the phy that was selected, or the code of the selection
 unfoldable pub passedTo : Adapter → List ℕ → List ℕ → Selection → Passed
-passedTo ad medium body s = cond (eqb (s .code) success) (connectedTo ad medium body (s .phy .0)) (passed (s .code) medium body)
+passedTo ad medium body s = cond (eqb (s .code) success) (sentTo ad medium body (s .phy .0)) (leaves (s .code) medium body)
 
--- "25: FIS byte 0 ..; phy and port ..; connected ..; then the disk"
+-- "25: FIS byte 0 ..; phy and port .. Connected if .. Then the disk"
 unfoldable pub passthrough : Adapter → List ℕ → List ℕ → Passed
 passthrough ad medium body =
-    cond (formHolds (fis body 0) (rateOf body)) (passedTo ad medium body (selectIn ad (phyAsked body) (portAsked body))) (passed invalidParameter medium body)
+    cond (formHolds (fis body 0) (connectionRate body)) (passedTo ad medium body (selectIn ad (phyAsked body) (portAsked body))) (leaves invalidParameter medium body)

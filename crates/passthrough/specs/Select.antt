@@ -1,4 +1,5 @@
--- Which phy a code 25 selects (document 01, "Request", 25), by the ports of the phys below p. Assumes nothing.
+-- Which phy a code 25 selects (document 01, "Request", 25), by the ports of the phys below p. "A port identifier never stands for a
+-- phy identifier": the two are of different types. Assumes nothing.
 use mathlib.Core.Bool.{Bool, cond, _&&_, not}
 use Prim.Native.Nat.{ℕ}
 use lib.Dec.{eqb, leb}
@@ -18,6 +19,7 @@ phyGiven phy = not (eqb (phy .0) 0xff)
 unfoldable pub portGiven : PortIdentifier → Bool
 portGiven port = not (eqb (port .0) 0xff)
 
+-- a phy, and none with the code that says why
 abbrev pub selected : PhyIdentifier → Selection
 selected phy = record { code = success; phy = phy }
 
@@ -29,7 +31,7 @@ unfoldable pub lowestOf : (ℕ → PortIdentifier) → ℕ → PortIdentifier �
 lowestOf ports p port = first (λ n. eqb (ports n .0) (port .0)) p
 
 -- "phy and port not both FFh; phy, if not FFh, below p; port, if not FFh, that of some phy; both given: that phy has that port":
--- with the lowest phy of the port, and the phy's own port
+-- with the lowest phy of the port, which is p where no phy has it, and the phy's own port
 unfoldable pub selection : PhyIdentifier → PortIdentifier → ℕ → ℕ → PortIdentifier → Selection
 selection phy port p lowest own =
     cond (not (phyGiven phy) && not (portGiven port)) (none selectPhyOrPort)
@@ -42,7 +44,7 @@ selection phy port p lowest own =
 unfoldable pub selectBy : (ℕ → PortIdentifier) → ℕ → PhyIdentifier → PortIdentifier → Selection
 selectBy ports p phy port = selection phy port p (lowestOf ports p port) (ports (phy .0))
 
--- and in an adapter
+-- and in an adapter, whose phys have these ports
 abbrev pub portIn : Adapter → ℕ → PortIdentifier
 portIn ad n = portOf (phyIn ad n)
 

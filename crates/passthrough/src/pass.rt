@@ -9,9 +9,9 @@ ghost use mathlib.Core.Path.{_≡_};
 ghost use Prim.Native.Nat.{_+_, _*_, _<_, _≤_};
 ghost use lib.ListN.{length};
 ghost use Rattle.disk.specs.Disk.{dataLength};
-ghost use Rattle.adapter.specs.Adapter.{phyIn};
+ghost use Rattle.adapter.specs.Adapter.{mediumSize, phyIn};
 ghost use Rattle.passthrough.specs.Select.{selectIn};
-ghost use Rattle.passthrough.specs.Passthrough.{passed, phyAsked, portAsked, rateOf, destinationOf, formHolds, connected, onDisk, connectedTo, passedTo, passthrough};
+ghost use Rattle.passthrough.specs.Passthrough.{leaves, phyAsked, portAsked, connectionRate, destinationOf, formHolds, connected, onDisk, sentTo, passedTo, passthrough};
 
 // A register host-to-device FIS.
 const COMMAND_FIS: u8 = 0x27;
@@ -36,7 +36,7 @@ fn reaches(phy: Phy, rate: u8, destination: &[u8]) -> bool
 fn is_connected(adapter: Adapter, n: PhyIdentifier, body: &[u8]) -> bool
     requires { ⌜ n .0 < 32 ⌝ }
     requires { ⌜ 136 ≤ length (now body) ⌝ }
-    ensures { λ r. ⌜ r ≡ connected (phyIn adapter (n .0)) (rateOf (now (body .entry))) (destinationOf (now (body .entry))) ⌝ }
+    ensures { λ r. ⌜ r ≡ connected (phyIn adapter (n .0)) (connectionRate (now (body .entry))) (destinationOf (now (body .entry))) ⌝ }
 {
     reaches(adapter.phy(n), body[2], &body[4..12])
 }
@@ -45,7 +45,7 @@ fn is_connected(adapter: Adapter, n: PhyIdentifier, body: &[u8]) -> bool
 fn on_disk(medium: &mut [u8], n: PhyIdentifier, body: &mut [u8]) -> u32
     requires { ⌜ 8192 * n .0 + 8192 ≤ length (now medium) ⌝ }
     requires { ⌜ 136 + dataLength (now body) ≤ length (now body) ⌝ }
-    ensures { λ code. ⌜ passed code (now (medium .exit)) (now (body .exit)) ≡ onDisk (now (medium .entry)) (n .0) (now (body .entry)) ⌝ }
+    ensures { λ code. ⌜ leaves code (now (medium .exit)) (now (body .exit)) ≡ onDisk (now (medium .entry)) (n .0) (now (body .entry)) ⌝ }
 {
     let from = 8192 * n.0 as usize;
     disk::command(&mut medium[from..from + 8192], body)
@@ -55,7 +55,7 @@ fn connect(adapter: Adapter, medium: &mut [u8], body: &mut [u8], n: PhyIdentifie
     requires { ⌜ n .0 < 32 ⌝ }
     requires { ⌜ 8192 * n .0 + 8192 ≤ length (now medium) ⌝ }
     requires { ⌜ 136 + dataLength (now body) ≤ length (now body) ⌝ }
-    ensures { λ code. ⌜ passed code (now (medium .exit)) (now (body .exit)) ≡ connectedTo adapter (now (medium .entry)) (now (body .entry)) (n .0) ⌝ }
+    ensures { λ code. ⌜ leaves code (now (medium .exit)) (now (body .exit)) ≡ sentTo adapter (now (medium .entry)) (now (body .entry)) (n .0) ⌝ }
 {
     if is_connected(adapter, n, body) {
         return on_disk(medium, n, body);
@@ -65,10 +65,10 @@ fn connect(adapter: Adapter, medium: &mut [u8], body: &mut [u8], n: PhyIdentifie
 
 fn pass_to(adapter: Adapter, medium: &mut [u8], body: &mut [u8], s: Selection) -> u32
     requires { ⌜ adapter .«phy_count» ≤ 32 ⌝ }
-    requires { ⌜ length (now medium) ≡ 8192 * adapter .«phy_count» ⌝ }
+    requires { ⌜ length (now medium) ≡ mediumSize adapter ⌝ }
     requires { ⌜ 136 + dataLength (now body) ≤ length (now body) ⌝ }
     requires { ⌜ s ≡ selectIn adapter (phyAsked (now body)) (portAsked (now body)) ⌝ }
-    ensures { λ code. ⌜ passed code (now (medium .exit)) (now (body .exit)) ≡ passedTo adapter (now (medium .entry)) (now (body .entry)) s ⌝ }
+    ensures { λ code. ⌜ leaves code (now (medium .exit)) (now (body .exit)) ≡ passedTo adapter (now (medium .entry)) (now (body .entry)) s ⌝ }
 {
     if s.code == codes::SUCCESS {
         return connect(adapter, medium, body, s.phy);
@@ -78,9 +78,9 @@ fn pass_to(adapter: Adapter, medium: &mut [u8], body: &mut [u8], s: Selection) -
 
 fn pass_selected(adapter: Adapter, medium: &mut [u8], body: &mut [u8]) -> u32
     requires { ⌜ adapter .«phy_count» ≤ 32 ⌝ }
-    requires { ⌜ length (now medium) ≡ 8192 * adapter .«phy_count» ⌝ }
+    requires { ⌜ length (now medium) ≡ mediumSize adapter ⌝ }
     requires { ⌜ 136 + dataLength (now body) ≤ length (now body) ⌝ }
-    ensures { λ code. ⌜ passed code (now (medium .exit)) (now (body .exit)) ≡ passedTo adapter (now (medium .entry)) (now (body .entry)) (selectIn adapter (phyAsked (now (body .entry))) (portAsked (now (body .entry)))) ⌝ }
+    ensures { λ code. ⌜ leaves code (now (medium .exit)) (now (body .exit)) ≡ passedTo adapter (now (medium .entry)) (now (body .entry)) (selectIn adapter (phyAsked (now (body .entry))) (portAsked (now (body .entry)))) ⌝ }
 {
     let s = select_phy(adapter, PhyIdentifier(body[0]), PortIdentifier(body[1]));
     pass_to(adapter, medium, body, s)
@@ -89,9 +89,9 @@ fn pass_selected(adapter: Adapter, medium: &mut [u8], body: &mut [u8]) -> u32
 // Selects a phy, and sends the command to its disk if it is connected.
 pub fn pass_through(adapter: Adapter, medium: &mut [u8], body: &mut [u8]) -> u32
     requires { ⌜ adapter .«phy_count» ≤ 32 ⌝ }
-    requires { ⌜ length (now medium) ≡ 8192 * adapter .«phy_count» ⌝ }
+    requires { ⌜ length (now medium) ≡ mediumSize adapter ⌝ }
     requires { ⌜ 136 + dataLength (now body) ≤ length (now body) ⌝ }
-    ensures { λ code. ⌜ passed code (now (medium .exit)) (now (body .exit)) ≡ passthrough adapter (now (medium .entry)) (now (body .entry)) ⌝ }
+    ensures { λ code. ⌜ leaves code (now (medium .exit)) (now (body .exit)) ≡ passthrough adapter (now (medium .entry)) (now (body .entry)) ⌝ }
 {
     if is_form(body[16], body[2]) {
         return pass_selected(adapter, medium, body);

@@ -9,7 +9,7 @@ use Rattle.rows.specs.declared.Row.{Row}
 use Rattle.rows.specs.Row.{rowAt, osIndex}
 use Rattle.reports.specs.Report.{Report, report, filled}
 
--- the row found, where one of a was
+-- what row i gives where i is below a, the row count; else no row was found
 unfoldable pub deviceBytes : List Row → ℕ → ℕ → List ℕ → Report
 deviceBytes rows a i body = cond (ltb i a) (filled (splice body 4 (rowAt rows i .device))) (report noDeviceAddress body)
 

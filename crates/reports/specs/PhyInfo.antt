@@ -10,6 +10,7 @@ use Rattle.phy.specs.declared.Phy.{Phy}
 use Rattle.phy.specs.Block.{noPhy}
 use Rattle.reports.specs.Report.{Report, filled}
 
+-- phy n's PHY_ENTITY
 abbrev pub entityAt : List Phy → ℕ → List ℕ
 entityAt phys n = getD phys n noPhy .entity
 
@@ -20,6 +21,8 @@ entities phys p = pieces (entityAt phys) p 64 32 0
 -- "fill Information": the phy count and the "reserved bytes of the phy count's word", then the entities
 unfoldable pub phyInfo : List Phy → ℕ → List ℕ → Report
 phyInfo phys p body = filled (splice (splice body 0 (p ∷ 0 ∷ 0 ∷ 0 ∷ [])) 4 (entities phys p))
+
+-- ---- for the proofs
 
 -- entity i stands within the 32
 pub entity-within : (l : List ℕ) (i p : ℕ) → i < p → p ≤ 32 → length l ≡ 2048 → 64 * i + 64 ≤ length l

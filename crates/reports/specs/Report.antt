@@ -1,4 +1,5 @@
--- What a request that only reports leaves: its return code and its body. It changes no table, no counter and no disk.
+-- What a request that only reports leaves (document 01, "Request", codes 1, 20, 26, 27 and 28): its return code and its body. It changes
+-- no table, no counter and no disk. "Bytes that no line below fills stay".
 -- Assumes nothing.
 use mathlib.Core.Path.{_≡_}
 use mathlib.Core.List.{List, map}
@@ -8,6 +9,7 @@ use lib.ListN.{length}
 use borrow.Author.Needs.{length-unmapped}
 use Rattle.codes.specs.Codes.{success}
 
+-- the return code and the body
 pub record Report : Type 0 where
   pub code : ℕ
   pub body : List ℕ
@@ -18,6 +20,8 @@ report code body = record { code = code; body = body }
 -- a body that was filled in
 abbrev pub filled : List ℕ → Report
 filled body = report success body
+
+-- ---- for the proofs
 
 -- an array that is a struct's field fits into a body with room for it
 pub fits : (l body : List ℕ) (at n N : ℕ) → length (map (λ (v : ℕ). v) l) ≡ n → N ≤ length body → at + n ≤ N → at + length l ≤ length body

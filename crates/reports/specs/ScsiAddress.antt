@@ -9,7 +9,7 @@ use Rattle.rows.specs.declared.Row.{Row}
 use Rattle.rows.specs.Row.{rowAt, deviceIndex}
 use Rattle.reports.specs.Report.{Report, report, filled}
 
--- the row found, where one of a was
+-- what row i gives where i is below a, the row count; else no row was found
 unfoldable pub osBytes : List Row → ℕ → ℕ → List ℕ → Report
 osBytes rows a i body = cond (ltb i a) (filled (splice body 16 (rowAt rows i .os))) (report noScsiAddress body)
 

@@ -1,10 +1,10 @@
 // Code 28, get device address.
 use rows::Row;
 ghost use mathlib.Core.Path.{_≡_};
-ghost use Prim.Native.Nat.{_<_, _≤_};
+ghost use Prim.Native.Nat.{_≤_};
 ghost use lib.ListN.{length};
 ghost use Rattle.laws.specs.Splice.{part, splice};
-ghost use Rattle.rows.specs.Row.{rowAt, osIndex};
+ghost use Rattle.rows.specs.Row.{osIndex};
 ghost use Rattle.reports.specs.Report.{report, filled};
 ghost use Rattle.reports.specs.DeviceAddress.{deviceBytes, deviceAddress};
 

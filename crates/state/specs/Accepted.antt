@@ -12,15 +12,16 @@ use Rattle.level.specs.Text.{textLevel}
 use Rattle.level.specs.Bound.{level-bound}
 use Rattle.rows.specs.Row.{rowsHold}
 use Rattle.adapter.specs.declared.Adapter.{Adapter}
-use Rattle.adapter.specs.Adapter.{countsHold, fieldsAll, zeroPast}
+use Rattle.adapter.specs.Adapter.{countsHold, fieldsAll, zeroPast, mediumSize}
 use Rattle.link.specs.All.{negotiatedAll}
 use Rattle.layout.specs.Layout.{phyCount, rowCount}
 use Rattle.file.specs.File.{fileRead, adapterOf}
 use Rattle.file.specs.Accepted.{Accepted, accepted, zero-read}
 use Rattle.state.specs.declared.Opened.{Opened}
 use Rattle.state.specs.State.{tablesHold, adapterHolds, stateHolds}
-use Rattle.state.specs.Open.{refused, opened, mediumSize, judged, openedFile, openedText, openedOf}
+use Rattle.state.specs.Open.{refused, opened, judged, openedFile, openedText, openedOf}
 
+-- the opening's number is 0
 Fine : Opened → Type 0
 Fine o = o .call ≡ 0
 

@@ -1,6 +1,6 @@
 -- What the proofs of this crate cite. Assumes nothing.
 use mathlib.Core.Path.{_≡_, refl, sym, _∙_}
-use mathlib.Core.Bool.{Bool, true, false, _&&_}
+use mathlib.Core.Bool.{Bool, true}
 use mathlib.Core.List.{List}
 use Prim.Native.Nat.{ℕ, _≤_}
 use lib.Dec.{leb}
@@ -16,13 +16,6 @@ use Rattle.state.specs.declared.State.{State}
 use Rattle.state.specs.declared.Opened.{Opened}
 use Rattle.state.specs.State.{tablesHold, adapterHolds, stateHolds}
 use Rattle.state.specs.Open.{refused, judged, openedFile}
-
--- a test and then another
-pub and-then : (t b r : Bool) → t ≡ true → r ≡ b → r ≡ t && b
-and-then t b r e p = rw e p
-
-pub and-not : (t b : Bool) → t ≡ false → false ≡ t && b
-and-not t b e = rw e refl
 
 -- the counts of a file that was accepted
 module _ (file : List ℕ) (f : FileRead) (e : f ≡ fileRead file) (h : f .call ≡ 0) where

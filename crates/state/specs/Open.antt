@@ -1,7 +1,7 @@
 -- Opening an adapter (document 01, "Adapter file", "Opening checks, in order"). Assumes nothing.
 use mathlib.Core.Bool.{cond}
 use mathlib.Core.List.{List}
-use Prim.Native.Nat.{ℕ, _*_}
+use Prim.Native.Nat.{ℕ}
 use lib.Dec.{eqb}
 use lib.ListN.{length}
 use Rattle.codes.specs.Codes.{badField, sharedRow, mediumLength}
@@ -10,6 +10,7 @@ use Rattle.level.specs.declared.TextLevel.{TextLevel}
 use Rattle.level.specs.Text.{textLevel}
 use Rattle.rows.specs.Row.{rowsHold}
 use Rattle.adapter.specs.declared.Adapter.{Adapter}
+use Rattle.adapter.specs.Adapter.{mediumSize}
 use Rattle.file.specs.declared.FileRead.{FileRead}
 use Rattle.file.specs.File.{fileRead}
 use Rattle.link.specs.All.{negotiatedAll}
@@ -23,10 +24,6 @@ refused call = record { call = call; state = zeroState }
 -- "The state is the level and what the file holds"
 abbrev pub opened : Level → Adapter → Opened
 opened level ad = record { call = 0; state = record { level = level; adapter = ad } }
-
--- "medium length 8,192 × p"
-abbrev pub mediumSize : Adapter → ℕ
-mediumSize ad = 8192 * ad .«phy_count»
 
 -- the last of "fields", which is the negotiated rates; "rows"; "medium length"
 unfoldable pub judged : Level → Adapter → ℕ → Opened

@@ -1,5 +1,5 @@
--- The state of the simulator and the rules that 107 tests (document 01, "From the state"). They are the rules that the opening
--- tests. Assumes nothing.
+-- The state of the simulator and the rules that 107 tests (document 01, "From the state"). The rules on counts, fields and rows are the
+-- ones that the opening tests. Assumes nothing.
 use mathlib.Core.Bool.{Bool, _&&_}
 use lib.Dec.{leb}
 use Rattle.level.specs.Text.{none}

@@ -9,7 +9,8 @@ ghost use Prim.Native.Nat.{_≤_};
 ghost use Rattle.file.specs.File.{fileRead};
 ghost use Rattle.rows.specs.Row.{rowsHold};
 ghost use Rattle.state.specs.State.{zeroState};
-ghost use Rattle.state.specs.Open.{refused, mediumSize, judged, openedFile, openedText, openedOf};
+ghost use Rattle.state.specs.Open.{refused, judged, openedFile, openedText, openedOf};
+ghost use Rattle.adapter.specs.Adapter.{mediumSize};
 
 fn zero_state() -> State
     ensures { λ r. ⌜ r ≡ zeroState ⌝ }

@@ -1,7 +1,7 @@
 -- `changes::set_phy_info::set_checked` meets its contract. Assumes nothing.
 use borrow.Author.Needs.{needs}
 use Rattle.changes.specs.SetPhyInfo.{setChecked}
-use Rattle.changes.specs.Stores.{minimum-below, maximum-below}
+use Rattle.changes.specs.Laws.{minimum-below, maximum-below}
 use Rattle.laws.specs.Choice.{picks}
 use Rattle.changes.proofs.set_phy_info.set_checked.Statement.{statement}
 use Rattle.changes.proofs.set_phy_info.set_checked.Tie as tie

@@ -1,8 +1,7 @@
 -- `state::rules::adapter_holds` meets its contract. Assumes nothing.
 use borrow.Author.Needs.{needs}
 use Rattle.adapter.specs.Store.{phys-bound, rows-bound}
-use Rattle.laws.specs.Choice.{flag}
-use Rattle.state.specs.Laws.{and-then, and-not}
+use Rattle.laws.specs.Choice.{and-then, and-not, flag}
 use Rattle.state.specs.State.{adapterHolds}
 use Rattle.state.proofs.rules.adapter_holds.Statement.{statement}
 use Rattle.state.proofs.rules.adapter_holds.Tie as tie

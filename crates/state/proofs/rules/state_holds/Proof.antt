@@ -1,7 +1,7 @@
 -- `state::rules::state_holds` meets its contract. Assumes nothing.
 use borrow.Author.Needs.{needs}
 use borrow.Author.Tests.{le-leb, lt-leb}
-use Rattle.state.specs.Laws.{and-then, and-not}
+use Rattle.laws.specs.Choice.{and-then, and-not}
 use Rattle.state.specs.State.{stateHolds}
 use Rattle.state.proofs.rules.state_holds.Statement.{statement}
 use Rattle.state.proofs.rules.state_holds.Tie as tie

@@ -5,11 +5,11 @@ use Prim.Native.Nat.{ℕ, _<_}
 use Rattle.laws.specs.Choice.{both-right}
 use Rattle.phy.specs.declared.Phy.{Phy}
 use Rattle.fields.specs.Rules.{rangeHolds, range-below}
-use Rattle.changes.specs.declared.Setting.{Setting}
+use Rattle.changes.specs.declared.PhySetting.{PhySetting}
 use Rattle.changes.specs.SetPhyInfo.{programmable, ratesHold}
 
 -- rates that passed fit the programmed half of a byte
-module _ (phy : Phy) (s : Setting) (minimum maximum : ℕ) (r : Bool) (e : r ≡ ratesHold phy s minimum maximum) (q : r ≡ true) where
+module _ (phy : Phy) (s : PhySetting) (minimum maximum : ℕ) (r : Bool) (e : r ≡ ratesHold phy s minimum maximum) (q : r ≡ true) where
   below : (minimum < 16) × (maximum < 16)
   unfolding ratesHold
   below =

@@ -1,0 +1,13 @@
+-- `simulator::main` meets its contract. Assumes nothing.
+use native.Mathlib.Omega.{arith}
+use lib.ListN.{length-take}
+use borrow.Author.Needs.{needs}
+use Rattle.simulator.proofs.main.Statement.{statement}
+use Rattle.simulator.proofs.main.Tie as tie
+
+pub main-spec : {M : Type 1} → statement M
+main-spec =
+    tie.close
+    (tie.spec (λ c. search needs) (λ c. search needs) (λ c κs. search needs) (λ c. search needs) (λ c. search needs)
+    (λ c κs. search needs) (λ c. search needs) (λ c. rw length-take (omega arith)) (λ c. search needs)
+    (λ c. rw length-take (omega arith)) (λ c κs. search needs) (λ c. search needs))

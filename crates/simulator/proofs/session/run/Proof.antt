@@ -1,0 +1,19 @@
+-- `simulator::session::run` meets its contract. Assumes nothing.
+use mathlib.Core.Path.{_≡_}
+use Prim.Native.Nat.{_≤_, _-_}
+use lib.ListN.{length}
+use borrow.Author.Needs.{needs}
+use Rattle.simulator.proofs.session.run.Statement.{statement}
+use Rattle.simulator.proofs.session.run.Tie as tie
+
+abbrev Inv-loop : tie.InvT-loop
+Inv-loop medium₀ state₀ number₀ medium state number = (number ≤ 18446744073709551615) × (length medium ≡ length medium₀)
+
+abbrev μ-loop : tie.MeasureT-loop
+μ-loop medium₀ state₀ number₀ medium state number = 18446744073709551615 - number
+
+pub run-spec : {M : Type 1} → statement M
+run-spec =
+    tie.close
+    (tie.spec Inv-loop μ-loop (λ c. search needs) (λ c κs. search needs) (λ c. search needs) (λ c. search needs)
+    (λ c. search needs) (λ c. search needs) (λ c. search needs) (λ c. search needs) (λ c. search needs))
