@@ -1,8 +1,10 @@
--- Demand 3, in one piece (document 01, "Two runs and the last writer"). Its proof is `claim` in Demand3.antt. Assumes nothing.
+-- Demand 3, in one piece (document 01, "Two runs and the last writer"). Its proof is `claim` in Demand3.antt. `openedOf` and `handled`, of
+-- which a run is made, are what the contracts of `state::open` and `dispatch::request` equate the calls with. Assumes nothing.
 use mathlib.Core.Path.{_≡_}
-use mathlib.Core.Bool.{Bool, true}
+use mathlib.Core.Bool.{true}
 use mathlib.Core.List.{List}
 use Prim.Native.Nat.{ℕ, _<_, _≤_}
+use lib.ListN.{length}
 use Rattle.laws.specs.Cases.{All}
 use Rattle.phy.specs.Entity.{programmedMinimum, programmedMaximum}
 use Rattle.layout.specs.Layout.{phyCount}
@@ -15,8 +17,8 @@ use Rattle.state.specs.Open.{openedOf}
 use Rattle.claims.specs.Run.{Entry, End, wholeRun, exchanges, given, sentOf, denial}
 use Rattle.claims.specs.LastWriter.{lastSector, lastMinimum, lastMaximum}
 
--- "the last-writer half": of one run over a file and a medium, which ended so
-pub record LastWriter (text file medium : List ℕ) (end : End) : Type 0 where
+-- "the last-writer half", of a run with this text, file and medium and this end
+pub record LastWriterHalf (text file medium : List ℕ) (end : End) : Type 0 where
   -- "Where the opening accepts, the half holds for every sector of every disk and both programmed rates of every phy below the
   -- file's p"
   pub sectors : openedOf text file medium .call ≡ 0 → (n k : ℕ) → n < phyCount file → k < 16
@@ -25,26 +27,28 @@ pub record LastWriter (text file medium : List ℕ) (end : End) : Type 0 where
       → programmedMinimum (phyIn (end .state .adapter) n) ≡ lastMinimum file (exchanges (end .log)) n
   pub maxima : openedOf text file medium .call ≡ 0 → (n : ℕ) → n < phyCount file
       → programmedMaximum (phyIn (end .state .adapter) n) ≡ lastMaximum file (exchanges (end .log)) n
+  -- the disks are as many bytes as at the start, so that a sector is 512 of them
+  pub size : length (end .medium) ≡ length medium
   -- "After a refused opening there is no phy and no programmed rate, and the whole medium stays as it was"
   pub refusedState : (openedOf text file medium .call ≡ 0 → ⊥) → end .state ≡ zeroState
   pub refusedMedium : (openedOf text file medium .call ≡ 0 → ⊥) → end .medium ≡ medium
 
--- two runs that ended so, the lower and the higher
+-- the ends of the lower and the higher run, compared
 pub record Comparison (lower higher : End) : Type 0 where
   -- "Tables, counters and disks are every field of the state but the level, and every byte of the medium"
-  pub tables : lower .state .adapter ≡ higher .state .adapter
+  pub tables : record { level = higher .state .level; adapter = lower .state .adapter } ≡ higher .state
   pub disks : lower .medium ≡ higher .medium
   -- the requests that both were given got the same replies
   pub replies : given (lower .log) ≡ exchanges (higher .log)
-  -- a denied request got its return code, and nothing else
+  -- the reply to a denied request is the request with return code 4, and call number 0
   pub denials : All (λ (e : Entry). e .denied ≡ true → e .exchange .reply ≡ denial (e .exchange .sent)) (lower .log)
 
--- "Both runs start with the same file and the same medium bytes; each text gives a level, the lower run's at most the higher's.
--- The higher run's list is the lower's without the requests denied there"
+-- "Both runs start with the same file and the same medium bytes"
 module _ (low high file medium : List ℕ) (requests : List (List ℕ)) where
   abbrev pub lowerRun : End
   lowerRun = wholeRun low file medium requests
 
+  -- "The higher run's list is the lower's without the requests denied there"
   abbrev pub higherRun : End
   higherRun = wholeRun high file medium (sentOf (given (lowerRun .log)))
 
@@ -52,14 +56,12 @@ module _ (low high file medium : List ℕ) (requests : List (List ℕ)) where
     -- every request of each list was answered, in order
     pub lowerAnswered : sentOf (exchanges (lowerRun .log)) ≡ requests
     pub higherAnswered : sentOf (exchanges (higherRun .log)) ≡ sentOf (given (lowerRun .log))
-    pub comparison : Comparison lowerRun higherRun
-    pub lower : LastWriter low file medium lowerRun
-    pub higher : LastWriter high file medium higherRun
+    -- "each text gives a level, the lower run's at most the higher's"
+    pub comparison : textLevel low .call ≡ 0 → textLevel high .call ≡ 0 → textLevel low .level .0 ≤ textLevel high .level .0
+        → Comparison lowerRun higherRun
+    pub lowerLast : LastWriterHalf low file medium lowerRun
+    pub higherLast : LastWriterHalf high file medium higherRun
 
+-- demand 3: for every file and medium, every list of requests, and two texts
 abbrev pub Claim : Type 0
-Claim =
-    (low high file medium : List ℕ) (requests : List (List ℕ))
-    → textLevel low .call ≡ 0
-    → textLevel high .call ≡ 0
-    → textLevel low .level .0 ≤ textLevel high .level .0
-    → TwoRuns low high file medium requests
+Claim = (low high file medium : List ℕ) (requests : List (List ℕ)) → TwoRuns low high file medium requests

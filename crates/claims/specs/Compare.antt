@@ -67,7 +67,7 @@ after-given s t m n request lower higher d p c =
 pub compare : (s t : State) (m n : List ℕ) (requests : List (List ℕ)) → s .adapter ≡ t .adapter → m ≡ n → s .level .0 ≤ t .level .0 → t .level .0 ≤ 3
     → Comparison (run s m requests) (run t n (sentOf (given (run s m requests .log))))
 unfolding run given sentOf exchanges
-compare s t m n [] a e h k = record { tables = a; disks = e; replies = refl; denials = tt }
+compare s t m n [] a e h k = record { tables = ap (λ (x : Adapter). record { level = t .level; adapter = x }) a; disks = e; replies = refl; denials = tt }
 compare s t m n (q ∷ qs) a e h k =
     let o : Outcome = handled s m q in
     let p : Outcome = handled t n q in

@@ -1,9 +1,10 @@
--- The conversions through `request` undo each other (document 01, codes 27 and 28; "on accepted rows they undo each other"): the reply to
--- a 27, fed to a 28, gives the SAS address and LUN back, and the other way. Assumes nothing.
+-- The conversions through `request` undo each other on rows that an opening accepted (document 01, codes 27 and 28): the reply to a 27,
+-- fed to a 28, gives the SAS address and LUN back, and the other way. In the body of a 27 the SAS address and LUN are bytes 0–15 and the
+-- OS bytes 16–19; in that of a 28 the OS bytes are 0–3 and the others 4–19. Assumes nothing.
 use mathlib.Core.Path.{_≡_, refl, sym, _∙_, ap}
-use mathlib.Core.Bool.{Bool, true, cond, _&&_}
+use mathlib.Core.Bool.{true, cond, _&&_}
 use mathlib.Core.List.{List, _++_}
-use Prim.Native.Nat.{ℕ, _+_, _-_, _<_, _≤_}
+use Prim.Native.Nat.{ℕ, _+_, _<_, _≤_}
 use native.Mathlib.Omega.{arith}
 use lib.Dec.{eqb, ltb, leb}
 use lib.ListN.{length, getD, take, drop}
@@ -11,7 +12,7 @@ use lib.Seq.{length-take-le, drop-drop, drop-append-add}
 use borrow.Author.Tests.{le-ltb, lt-ltb, eq-eqb, eqb-true, ltb-true}
 use Rattle.laws.specs.Choice.{either, both-left, both-right, came-then}
 use Rattle.laws.specs.Fill.{getD-padded}
-use Rattle.laws.specs.Splice.{part, splice, part-splice, part-above, part-below}
+use Rattle.laws.specs.Splice.{part, splice, part-splice, part-above}
 use Rattle.codes.specs.Codes.{success, getScsiAddress, getDeviceAddress, noScsiAddress, noDeviceAddress}
 use Rattle.wire.specs.Number.{bytes, length-bytes}
 use Rattle.rows.specs.declared.Row.{Row}
@@ -38,7 +39,7 @@ use Rattle.dispatch.specs.Serve.{unchanged, changed, reportOf, served}
 use Rattle.dispatch.specs.Request.{Outcome, callNumber, inBuffer, answered, replied, answeredAt, handled}
 use Rattle.claims.specs.Run.{replyOf}
 use Rattle.claims.specs.LastWriter.{granted}
-use Rattle.claims.specs.Ways.{report-code, granted-code, in-buffer}
+use Rattle.claims.specs.Ways.{granted-code, in-buffer}
 
 -- ---- a request of one code that passes the checks up to the level
 
@@ -48,7 +49,7 @@ pub record Sound (s : State) (request : List ℕ) (code : ℕ) : Type 0 where
   pub passes : accessCode (s .level) request ≡ success
 
 -- a state that 107 accepts, with its medium, whose rows have 16 and 4 bytes
-pub record Rowed (s : State) (medium : List ℕ) : Type 0 where
+pub record AcceptedRows (s : State) (medium : List ℕ) : Type 0 where
   pub holds : stateHolds s ≡ true
   pub disks : mediumSize (s .adapter) ≡ length medium
   pub devices : (i : ℕ) → i < s .adapter .«row_count» → length (rowAt (s .adapter .rows) i .device) ≡ 16
@@ -120,7 +121,7 @@ module _ (s : State) (medium request : List ℕ) (h : 28 ≤ length request) (i 
 
 -- ---- both ways
 
-module _ (s : State) (medium : List ℕ) (w : Rowed s medium) where
+module _ (s : State) (medium : List ℕ) (w : AcceptedRows s medium) where
   abbrev rows : List Row
   rows = s .adapter .rows
 
@@ -189,9 +190,9 @@ module _ (s : State) (medium : List ℕ) (w : Rowed s medium) where
 
 -- ---- an opening that accepts gives such a state
 
-pub opened-rowed : (text file medium : List ℕ) → openedOf text file medium .call ≡ 0 → Rowed (openedOf text file medium .state) medium
+pub opened-rows : (text file medium : List ℕ) → openedOf text file medium .call ≡ 0 → AcceptedRows (openedOf text file medium .state) medium
 unfolding adapterOf fileRow
-opened-rowed text file medium h =
+opened-rows text file medium h =
     let o : Open text file medium = open-accepted text file medium h in
     let p : ℕ = phyCount file in
     let n : ℕ = rowCount file in
@@ -203,8 +204,8 @@ opened-rowed text file medium h =
       os = rw (o .opened) (λ i l. ap (λ (r : Row). length (r .os)) (getD-padded (fileRow file p) n 64 i zeroRow noRow l) ∙ length-os file (rowPlace p i) (inside i l));
     }
 
--- "on accepted rows they undo each other": after an opening that accepts, one request and then the other
-pub record Undone (s : State) (medium : List ℕ) : Type 0 where
+-- after an opening that accepts, one request and then the other
+pub record RoundTrip (s : State) (medium : List ℕ) : Type 0 where
   pub device : (q r : List ℕ) → Sound s q getScsiAddress → Sound s r getDeviceAddress → granted (replyOf (handled s medium q)) ≡ true
       → part (bodyOf r) 0 4 ≡ part (bodyOf (handled s medium q .buffer)) 16 4
       → (granted (replyOf (handled (handled s medium q .state) (handled s medium q .medium) r)) ≡ true)
@@ -214,8 +215,8 @@ pub record Undone (s : State) (medium : List ℕ) : Type 0 where
       → (granted (replyOf (handled (handled s medium q .state) (handled s medium q .medium) r)) ≡ true)
       × (part (bodyOf (handled (handled s medium q .state) (handled s medium q .medium) r .buffer)) 16 4 ≡ part (bodyOf q) 0 4)
 
-pub undone : (text file medium : List ℕ) → openedOf text file medium .call ≡ 0 → Undone (openedOf text file medium .state) medium
-undone text file medium h =
+pub round-trip : (text file medium : List ℕ) → openedOf text file medium .call ≡ 0 → RoundTrip (openedOf text file medium .state) medium
+round-trip text file medium h =
     let s : State = openedOf text file medium .state in
-    let w : Rowed s medium = opened-rowed text file medium h in
+    let w : AcceptedRows s medium = opened-rows text file medium h in
     record { device = device-returns s medium w; os = os-returns s medium w }

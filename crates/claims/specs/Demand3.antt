@@ -4,12 +4,13 @@ use mathlib.Core.Bool.{Bool, true, false, cond}
 use mathlib.Core.List.{List, [], _∷_}
 use Prim.Native.Nat.{ℕ, _*_, _<_, _≤_}
 use native.Mathlib.Omega.{arith}
+use native.Mathlib.Decide.{ℕ-discrete}
 use lib.Dec.{eqb}
 use lib.ListN.{length, getD}
-use Rattle.laws.specs.Choice.{by-bool, either}
-use Rattle.codes.specs.Codes.{badState}
+use Rattle.laws.specs.Choice.{either}
+use Rattle.codes.specs.Codes.{badField, sharedRow, mediumLength, badState}
 use Rattle.phy.specs.declared.Phy.{Phy}
-use Rattle.phy.specs.Block.{phyOf, length-entity}
+use Rattle.phy.specs.Block.{length-entity}
 use Rattle.phy.specs.Entity.{portOf, programmedMinimum, programmedMaximum}
 use Rattle.phy.specs.Kept.{Settings}
 use Rattle.level.specs.declared.Level.{Level}
@@ -35,39 +36,48 @@ use Rattle.state.specs.Open.{refused, judged, openedFile, openedText, openedOf}
 use Rattle.state.specs.Accepted.{Open, open-accepted}
 use Rattle.dispatch.specs.Request.{callNumber, untouched, handled}
 use Rattle.claims.specs.Run.{run, wholeRun, exchanges, given, sentOf}
-use Rattle.claims.specs.LastWriter.{sectorBy, rateBy, lastSector, lastMinimum, lastMaximum}
-use Rattle.claims.specs.Claim.{LastWriter, lowerRun, Claim}
+use Rattle.claims.specs.LastWriter.{sectorBy, rateBy}
+use Rattle.claims.specs.Claim.{LastWriterHalf, lowerRun, Claim}
 use Rattle.claims.specs.Phys.{setNow, minimum-set, maximum-set}
-use Rattle.claims.specs.Effects.{Tied, tied-step, sector-step, rate-step}
+use Rattle.claims.specs.Effects.{FromFile, from-step, sector-step, rate-step}
 use Rattle.claims.specs.Compare.{all-answered, compare}
 
 -- ---- over a list of requests
 
-sectors-by : (file : List ℕ) (s : State) (medium : List ℕ) (requests : List (List ℕ)) → Tied file s medium → (n k : ℕ)
+sectors-by : (file : List ℕ) (s : State) (medium : List ℕ) (requests : List (List ℕ)) → FromFile file s medium → (n k : ℕ)
     → sector (diskOf (run s medium requests .medium) n) k ≡ sectorBy file n k (sector (diskOf medium n) k) (exchanges (run s medium requests .log))
 unfolding run exchanges sectorBy
 sectors-by file s medium [] t n k = refl
 sectors-by file s medium (q ∷ qs) t n k =
-    sectors-by file (handled s medium q .state) (handled s medium q .medium) qs (tied-step file s medium t q) n k
+    sectors-by file (handled s medium q .state) (handled s medium q .medium) qs (from-step file s medium t q) n k
     ∙ ap (λ (x : List ℕ). sectorBy file n k x (exchanges (run (handled s medium q .state) (handled s medium q .medium) qs .log))) (sector-step file s medium t q n k)
+
+size-kept : (file : List ℕ) (s : State) (medium : List ℕ) (requests : List (List ℕ)) → FromFile file s medium
+    → length (run s medium requests .medium) ≡ length medium
+unfolding run
+size-kept file s medium [] t = refl
+size-kept file s medium (q ∷ qs) t =
+    size-kept file (handled s medium q .state) (handled s medium q .medium) qs (from-step file s medium t q)
+    ∙ from-step file s medium t q .disks
+    ∙ sym (t .disks)
 
 module _ (place : ℕ) (rate : Phy → ℕ)
     (sets : (phy : Phy) (b : List ℕ) → length (phy .entity) ≡ 64 → rate (setNow phy b) ≡ resulting (getD b place 0) (rate phy))
     (same : (a b : Phy) → Settings a b → rate b ≡ rate a)
   where
-    rates-by : (file : List ℕ) (s : State) (medium : List ℕ) (requests : List (List ℕ)) → Tied file s medium → (n : ℕ)
+    rates-by : (file : List ℕ) (s : State) (medium : List ℕ) (requests : List (List ℕ)) → FromFile file s medium → (n : ℕ)
         → rate (phyIn (run s medium requests .state .adapter) n) ≡ rateBy place n (rate (phyIn (s .adapter) n)) (exchanges (run s medium requests .log))
     unfolding run exchanges rateBy
     rates-by file s medium [] t n = refl
     rates-by file s medium (q ∷ qs) t n =
-        rates-by file (handled s medium q .state) (handled s medium q .medium) qs (tied-step file s medium t q) n
+        rates-by file (handled s medium q .state) (handled s medium q .medium) qs (from-step file s medium t q) n
         ∙ ap (λ (x : ℕ). rateBy place n x (exchanges (run (handled s medium q .state) (handled s medium q .medium) qs .log))) (rate-step file s medium t q place rate sets same n)
 
 -- ---- where the opening accepts
 
-opened-tied : (text file medium : List ℕ) → openedOf text file medium .call ≡ 0 → Tied file (openedOf text file medium .state) medium
+opened-from : (text file medium : List ℕ) → openedOf text file medium .call ≡ 0 → FromFile file (openedOf text file medium .state) medium
 unfolding adapterOf phyAt
-opened-tied text file medium h =
+opened-from text file medium h =
     let o : Open text file medium = open-accepted text file medium h in
     let p : ℕ = phyCount file in
     let a : ℕ = rowCount file in
@@ -116,21 +126,26 @@ zero-run medium (q ∷ qs) = rw (zero-step medium q) (zero-run medium qs)
 
 -- ---- one run
 
-last-writer : (text file medium : List ℕ) (requests : List (List ℕ)) → LastWriter text file medium (wholeRun text file medium requests)
+last-writer : (text file medium : List ℕ) (requests : List (List ℕ)) → LastWriterHalf text file medium (wholeRun text file medium requests)
 unfolding wholeRun
 last-writer text file medium requests =
     record {
-      sectors = λ h n k _ _. sectors-by file (openedOf text file medium .state) medium requests (opened-tied text file medium h) n k;
+      sectors = λ h n k _ _. sectors-by file (openedOf text file medium .state) medium requests (opened-from text file medium h) n k;
       minima = λ h n l.
-          rates-by 2 programmedMinimum minimum-set (λ a b c. c .minimum) file (openedOf text file medium .state) medium requests (opened-tied text file medium h) n
+          rates-by 2 programmedMinimum minimum-set (λ a b c. c .minimum) file (openedOf text file medium .state) medium requests (opened-from text file medium h) n
           ∙ ap (λ (x : Phy). rateBy 2 n (programmedMinimum x) (exchanges (run (openedOf text file medium .state) medium requests .log))) (starts h n l);
       maxima = λ h n l.
-          rates-by 3 programmedMaximum maximum-set (λ a b c. c .maximum) file (openedOf text file medium .state) medium requests (opened-tied text file medium h) n
+          rates-by 3 programmedMaximum maximum-set (λ a b c. c .maximum) file (openedOf text file medium .state) medium requests (opened-from text file medium h) n
           ∙ ap (λ (x : Phy). rateBy 3 n (programmedMaximum x) (exchanges (run (openedOf text file medium .state) medium requests .log))) (starts h n l);
+      size = kept-size (ℕ-discrete (openedOf text file medium .call) 0);
       refusedState = λ h. rw (opened-zero text file medium h) (zero-run medium requests .0);
       refusedMedium = λ h. rw (opened-zero text file medium h) (zero-run medium requests .1);
     }
   where
+    kept-size : Dec (openedOf text file medium .call ≡ 0) → length (run (openedOf text file medium .state) medium requests .medium) ≡ length medium
+    kept-size (yes h) = size-kept file (openedOf text file medium .state) medium requests (opened-from text file medium h)
+    kept-size (no h) = rw (opened-zero text file medium h, zero-run medium requests .1) refl
+
     starts : openedOf text file medium .call ≡ 0 → (n : ℕ) → n < phyCount file → phyIn (openedOf text file medium .state .adapter) n ≡ phyAt file n
     starts h n l = rw (open-accepted text file medium h .opened) (phy-read file (phyCount file) (rowCount file) n l)
 
@@ -152,8 +167,8 @@ opened-paired l m f size h k =
     paired-cond (eqb (f .call) 0)
     (paired-cond (negotiatedAll (f .adapter))
     (paired-cond (rowsHold (f .adapter .rows) (f .adapter .«row_count»))
-    (paired-cond (eqb (mediumSize (f .adapter)) size) (record { tables = refl; levels = h; bound = k }) (zero 106)) (zero 105))
-    (zero 104))
+    (paired-cond (eqb (mediumSize (f .adapter)) size) (record { tables = refl; levels = h; bound = k }) (zero mediumLength)) (zero sharedRow))
+    (zero badField))
     (zero (f .call))
   where
     zero : (call : ℕ) → Paired (refused call) (refused call)
@@ -167,13 +182,14 @@ texts-paired low high file medium p q h =
 
 pub claim : Claim
 unfolding wholeRun
-claim low high file medium requests p q h =
-    let o = texts-paired low high file medium p q h in
+claim low high file medium requests =
     let list = sentOf (given (lowerRun low high file medium requests .log)) in
     record {
       lowerAnswered = all-answered (openedOf low file medium .state) medium requests;
       higherAnswered = all-answered (openedOf high file medium .state) medium list;
-      comparison = compare (openedOf low file medium .state) (openedOf high file medium .state) medium medium requests (o .tables) refl (o .levels) (o .bound);
-      lower = last-writer low file medium requests;
-      higher = last-writer high file medium list;
+      comparison = λ p q h.
+          let o = texts-paired low high file medium p q h in
+          compare (openedOf low file medium .state) (openedOf high file medium .state) medium medium requests (o .tables) refl (o .levels) (o .bound);
+      lowerLast = last-writer low file medium requests;
+      higherLast = last-writer high file medium list;
     }

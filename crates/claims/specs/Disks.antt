@@ -129,6 +129,11 @@ module _ (ad : Adapter) (medium body : List ℕ) (h : length medium ≡ mediumSi
       at c (yes e) = rw (e, eq-eqb to to refl, and-true) (own-sector c k)
       at c (no d) = rw (ne-eqb to n (λ e. d (sym e)), and-false) (ap (λ (x : List ℕ). sector x k) (other-disk medium (onto .disk) to (inside c) (size c) n d))
 
+  -- a request with return code 0 selected a phy
+  pub passed-selected : passthrough ad medium body .code ≡ 0 → chosen ad medium body .code ≡ success
+  passed-selected =
+      passed-by ad medium body (λ (p : Passed). p .code ≡ 0 → chosen ad medium body .code ≡ success) (λ code z _ e. absurd (omega arith)) (λ c _. c)
+
   pub passed-length : length (passthrough ad medium body .medium) ≡ length medium
   unfolding onDisk
   passed-length =

@@ -1,5 +1,5 @@
--- What one request does to every sector and to every programmed rate, judged by the request and its reply, in a state that goes back
--- to a file. Assumes nothing.
+-- What one request does to every sector and to every programmed rate, judged by the request and its reply, in a state that a run from a
+-- file reached. Assumes nothing.
 use mathlib.Core.Path.{_≡_, refl, sym, _∙_, ap}
 use mathlib.Core.Bool.{Bool, true, false, cond, _&&_, not}
 use mathlib.Core.List.{List, _++_}
@@ -7,7 +7,7 @@ use Prim.Native.Nat.{ℕ, _+_, _-_, _*_, _<_, _≤_}
 use native.Mathlib.Omega.{arith}
 use lib.Dec.{eqb, ltb}
 use lib.ListN.{length, getD, take}
-use borrow.Author.Tests.{eq-eqb, ne-eqb, ltb-true, ltb-false}
+use borrow.Author.Tests.{eq-eqb, ne-eqb, eqb-true, ltb-true, ltb-false}
 use Rattle.laws.specs.Choice.{by-bool, either}
 use Rattle.laws.specs.First.{first-same}
 use Rattle.laws.specs.Splice.{part}
@@ -38,7 +38,7 @@ use Rattle.dispatch.specs.Request.{Outcome, untouched, inBuffer, refused, repli
 use Rattle.claims.specs.Run.{Reply, Exchange, replyOf}
 use Rattle.claims.specs.LastWriter.{granted, selects, writesSector, sectorAfter, writesRate, rateAfter}
 use Rattle.claims.specs.Phys.{Moved, moved-refl, setNow, set-code, set-moved, errors-moved, errors-settings, set-rate}
-use Rattle.claims.specs.Disks.{passed-sector, passed-length, passed-code}
+use Rattle.claims.specs.Disks.{passed-sector, passed-selected, passed-length, passed-code}
 use Rattle.claims.specs.Ways.{served-by, report-code, Ready, handled-by, granted-code, not-granted, in-buffer, status-shown}
 
 -- ---- a selection goes by the ports below p alone
@@ -56,9 +56,14 @@ select-same f g p phy port h =
     (λ e. selection-past phy port p (lowestOf g p port) (f (phy .0)) (g (phy .0)) (selection phy port p (lowestOf g p port) (f (phy .0))) (ltb-false (phy .0) p e) refl)
     (ltb (phy .0) p) refl)
 
--- ---- a state that goes back to a file
+and-true : (a : Bool) → a && true ≡ a
+and-true true = refl
+and-true false = refl
 
-pub record Tied (file : List ℕ) (s : State) (medium : List ℕ) : Type 0 where
+-- ---- a state that a run from a file reached
+
+-- what no request changes is still as the file gave it
+pub record FromFile (file : List ℕ) (s : State) (medium : List ℕ) : Type 0 where
   pub bound : phyCount file ≤ 32
   pub count : s .adapter .«phy_count» ≡ phyCount file
   pub disks : length medium ≡ 8192 * phyCount file
@@ -66,9 +71,9 @@ pub record Tied (file : List ℕ) (s : State) (medium : List ℕ) : Type 0 where
   pub entities : (n : ℕ) → n < phyCount file → length (phyIn (s .adapter) n .entity) ≡ 64
   pub ports : (n : ℕ) → n < phyCount file → portOf (phyIn (s .adapter) n) ≡ portOf (phyAt file n)
 
-module _ (file : List ℕ) (s : State) (medium : List ℕ) (t : Tied file s medium) where
-  tied-moved : (bd : Adapter) (m : List ℕ) → Moved (s .adapter) bd → length m ≡ length medium → Tied file (record { level = s .level; adapter = bd }) m
-  tied-moved bd m v l =
+module _ (file : List ℕ) (s : State) (medium : List ℕ) (t : FromFile file s medium) where
+  from-moved : (bd : Adapter) (m : List ℕ) → Moved (s .adapter) bd → length m ≡ length medium → FromFile file (record { level = s .level; adapter = bd }) m
+  from-moved bd m v l =
       record {
         bound = t .bound;
         count = v .count ∙ t .count;
@@ -97,13 +102,13 @@ module _ (file : List ℕ) (s : State) (medium : List ℕ) (t : Tied file s medi
 
     -- ---- the state after it
 
-    pub tied-step : Tied file (handled s medium request .state) (handled s medium request .medium)
-    tied-step =
-        handled-by s medium request (λ (o : Outcome). Tied file (o .state) (o .medium)) (λ _ _. t) (λ _ _ _ _. t)
-        (λ r. served-by (s .adapter) medium (controlCode request) body (λ (x : Served). Tied file (record { level = s .level; adapter = x .adapter }) (x .medium))
-        (λ _. tied-moved (setInfo (s .adapter) body .adapter) medium (set-moved (s .adapter) body (t .phys) few) refl)
-        (λ _. tied-moved (linkErrors (s .adapter) body .adapter) medium (errors-moved (s .adapter) body (t .phys) few) refl)
-        (λ e. tied-moved (s .adapter) (passthrough (s .adapter) medium body .medium) (moved-refl (s .adapter)) (passed-length (s .adapter) medium body (full r) (lent r e)))
+    pub from-step : FromFile file (handled s medium request .state) (handled s medium request .medium)
+    from-step =
+        handled-by s medium request (λ (o : Outcome). FromFile file (o .state) (o .medium)) (λ _ _. t) (λ _ _ _ _. t)
+        (λ r. served-by (s .adapter) medium (controlCode request) body (λ (x : Served). FromFile file (record { level = s .level; adapter = x .adapter }) (x .medium))
+        (λ _. from-moved (setInfo (s .adapter) body .adapter) medium (set-moved (s .adapter) body (t .phys) few) refl)
+        (λ _. from-moved (linkErrors (s .adapter) body .adapter) medium (errors-moved (s .adapter) body (t .phys) few) refl)
+        (λ e. from-moved (s .adapter) (passthrough (s .adapter) medium body .medium) (moved-refl (s .adapter)) (passed-length (s .adapter) medium body (full r) (lent r e)))
         (λ _ _. t))
 
     -- ---- the sectors
@@ -134,11 +139,15 @@ module _ (file : List ℕ) (s : State) (medium : List ℕ) (t : Tied file s medi
         let p = passthrough (s .adapter) medium body in
         let g = granted-code (take 28 request ++ p .body) (p .code) (in-buffer request (p .body) (r .long)) (passed-code (s .adapter) medium body (full r) (lent r e)) in
         let q = select-same (λ (i : ℕ). portOf (phyAt file i)) (λ (i : ℕ). portOf (phyIn (s .adapter) i)) (phyCount file) (phyAsked body) (portAsked body) (λ i h. sym (t .ports i h)) in
+        let to = selectIn (s .adapter) (phyAsked body) (portAsked body) in
         rw (g, status-shown request (p .body) (p .code) (r .long), q, ← (t .count), e)
         (by-bool
-        (λ (b : Bool). b && true && eqb (command body) 0x30 && eqb (replyStatus (p .body)) 0x50 && eqb (selectIn (s .adapter) (phyAsked body) (portAsked body) .phy .0) n && covers body k
-        ≡ b && (eqb (command body) 0x30 && eqb (replyStatus (p .body)) 0x50) && eqb (selectIn (s .adapter) (phyAsked body) (portAsked body) .phy .0) n && covers body k)
-        refl refl (eqb (p .code) success))
+        (λ (b : Bool). eqb (p .code) success ≡ b
+        → b && true && eqb (command body) 0x30 && eqb (replyStatus (p .body)) 0x50 && eqb (to .code) success && eqb (to .phy .0) n && covers body k
+        ≡ b && (eqb (command body) 0x30 && eqb (replyStatus (p .body)) 0x50) && eqb (to .phy .0) n && covers body k)
+        (λ z. let c : eqb (to .code) success ≡ true = eq-eqb (to .code) success (passed-selected (s .adapter) medium body (full r) (lent r e) (eqb-true (p .code) success z)) in
+        rw (c, and-true) refl)
+        (λ _. refl) (eqb (p .code) success) refl)
 
     written : (n k : ℕ) → Ready s medium request → controlCode request ≡ stpPassthru
         → sector (diskOf (passthrough (s .adapter) medium body .medium) n) k

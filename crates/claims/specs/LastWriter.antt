@@ -8,7 +8,6 @@ use lib.ListN.{getD}
 use Rattle.laws.specs.Splice.{part}
 use Rattle.codes.specs.Codes.{success, setPhyInfo, stpPassthru}
 use Rattle.wire.specs.Number.{number}
-use Rattle.phy.specs.declared.PortIdentifier.{PortIdentifier}
 use Rattle.phy.specs.Entity.{portOf, programmedMinimum, programmedMaximum}
 use Rattle.layout.specs.Layout.{phyCount}
 use Rattle.file.specs.File.{phyAt}
@@ -39,6 +38,7 @@ writesSector file n k x =
     && eqb (controlCode (x .sent)) stpPassthru
     && eqb (command (bodyOf (x .sent))) 0x30
     && eqb (replyStatus (bodyOf (x .reply .buffer))) 0x50
+    && eqb (selects file (bodyOf (x .sent)) .code) success
     && eqb (selects file (bodyOf (x .sent)) .phy .0) n
     && covers (bodyOf (x .sent)) k
 
@@ -47,7 +47,7 @@ unfoldable pub sectorAfter : List ℕ → ℕ → ℕ → Exchange → List ℕ 
 sectorAfter file n k x before =
     cond (writesSector file n k x) (part (bodyOf (x .sent)) (136 + 512 * (k - lba (bodyOf (x .sent)))) 512) before
 
--- one exchange after the other
+-- what sector k of phy n's disk holds after a list of exchanges, by what it held before
 unfoldable pub sectorBy : List ℕ → ℕ → ℕ → List ℕ → List Exchange → List ℕ
 sectorBy file n k before [] = before
 sectorBy file n k before (x ∷ xs) = sectorBy file n k (sectorAfter file n k x before) xs
@@ -71,6 +71,7 @@ writesRate place n x =
 unfoldable pub rateAfter : ℕ → ℕ → Exchange → ℕ → ℕ
 rateAfter place n x before = cond (writesRate place n x) (getD (bodyOf (x .sent)) place 0) before
 
+-- the rate after a list of exchanges, by what it was before
 unfoldable pub rateBy : ℕ → ℕ → ℕ → List Exchange → ℕ
 rateBy place n before [] = before
 rateBy place n before (x ∷ xs) = rateBy place n (rateAfter place n x before) xs

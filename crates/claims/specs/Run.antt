@@ -1,4 +1,5 @@
--- Runs (document 01, "Two runs and the last writer"). A request is the bytes of its buffer as sent. Assumes nothing.
+-- Runs (document 01, "Two runs and the last writer"). A request is the bytes of its buffer as sent, "each in a buffer of its own". The
+-- opening only reads the medium. Assumes nothing.
 use mathlib.Core.Bool.{Bool, cond, _&&_}
 use mathlib.Core.List.{List, [], _∷_}
 use Prim.Native.Nat.{ℕ}
@@ -17,14 +18,16 @@ pub record Reply : Type 0 where
   pub call : ℕ
   pub buffer : List ℕ
 
+-- of what a call left
 abbrev pub replyOf : Outcome → Reply
 replyOf o = record { call = o .call; buffer = o .buffer }
 
--- a request as sent, its reply, and whether it was denied there
+-- a request as sent, and its reply
 pub record Exchange : Type 0 where
   pub sent : List ℕ
   pub reply : Reply
 
+-- the same, and whether it was denied when it came
 pub record Entry : Type 0 where
   pub exchange : Exchange
   pub denied : Bool
@@ -34,16 +37,18 @@ unfoldable pub denied : State → List ℕ → List ℕ → Bool
 denied s medium buffer =
     eqb (callNumber s (length medium) (length buffer)) 0 && eqb (headerCode buffer) success && above (s .level) buffer
 
--- what a run leaves: the state, the medium, and what went to and fro
+-- what a run leaves: the state, the medium, and its requests and replies in order
 pub record End : Type 0 where
   pub state : State
   pub medium : List ℕ
   pub log : List Entry
 
+-- one request in a state and a medium
 abbrev pub entryOf : State → List ℕ → List ℕ → Entry
 entryOf s medium request =
     record { exchange = record { sent = request; reply = replyOf (handled s medium request) }; denied = denied s medium request }
 
+-- a run with one request before it
 abbrev pub preceded : Entry → End → End
 preceded e end = record { state = end .state; medium = end .medium; log = e ∷ end .log }
 
@@ -58,15 +63,17 @@ wholeRun text file medium requests = run (openedOf text file medium .state) medi
 
 -- ---- the parts of a log
 
+-- requests and replies alone
 unfoldable pub exchanges : List Entry → List Exchange
 exchanges [] = []
 exchanges (e ∷ es) = e .exchange ∷ exchanges es
 
--- what was not denied
+-- the exchanges that were not denied: what both runs are given
 unfoldable pub given : List Entry → List Exchange
 given [] = []
 given (e ∷ es) = cond (e .denied) (given es) (e .exchange ∷ given es)
 
+-- the requests
 unfoldable pub sentOf : List Exchange → List (List ℕ)
 sentOf [] = []
 sentOf (x ∷ xs) = x .sent ∷ sentOf xs

@@ -38,7 +38,7 @@ use Rattle.dispatch.specs.Request.{Outcome, callNumber, untouched, inBuffer, re
 use Rattle.claims.specs.Run.{Reply}
 use Rattle.claims.specs.LastWriter.{granted}
 
--- ---- a request whose level was granted
+-- ---- a request that passed the level check
 
 pub served-by : (ad : Adapter) (medium : List ℕ) (code : ℕ) (body : List ℕ) (P : Served → Type 0)
     → (code ≡ setPhyInfo → P (changed medium (changedBy (setInfo ad body) body)))
@@ -87,7 +87,7 @@ access-code level buffer =
 
 -- ---- a request
 
--- what is known where the level was granted
+-- what is known of a request that passed the level check
 pub record Ready (s : State) (medium request : List ℕ) : Type 0 where
   pub disks : length medium ≡ mediumSize (s .adapter)
   pub long : 28 ≤ length request
