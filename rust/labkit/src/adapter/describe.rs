@@ -1,0 +1,156 @@
+//! The description of an adapter file. It makes the same bytes again, whatever they are: what the named fields do not say stands in
+//! `byte`, `length` and `damage` lines.
+
+use super::fields::{DRIVER, ROW};
+use super::{parse, phy, row_at, BLOCK, CHECK_AT, DRIVER_AT, MOST_PHYS, MOST_ROWS, ROW_BYTES};
+use crate::field::differences;
+use crate::value::MOST_BYTES;
+
+/// The most columns of a line; a longer one goes on in the next.
+const COLUMNS: usize = 110;
+
+/// The description of a file, or why it has none.
+pub fn describe(file: &[u8]) -> Result<String, String> {
+    if file.len() > MOST_BYTES {
+        return Err(format!("the file has more than {MOST_BYTES} bytes"));
+    }
+    let mut text = named(file);
+    let made = remade(&text)?;
+    for at in 0..made.len().min(file.len()) {
+        if at % BLOCK < CHECK_AT && made[at] != file[at] {
+            text.push_str(&place("byte", at, file[at]));
+        }
+    }
+    let mut made = remade(&text)?;
+    if made.len() != file.len() {
+        text.push_str(&format!("length {}\n", file.len()));
+        made.resize(file.len(), 0);
+    }
+    for at in 0..file.len() {
+        if made[at] != file[at] {
+            text.push_str(&place("damage", at, file[at]));
+        }
+    }
+    Ok(text)
+}
+
+/// The lines of the named fields: driver info, the phys and rows that the counts promise and the file has room for.
+fn named(file: &[u8]) -> String {
+    let mut whole = file.to_vec();
+    whole.resize(file.len().next_multiple_of(BLOCK).max(BLOCK), 0);
+    let mut text = String::new();
+    let info = &whole[DRIVER_AT..DRIVER_AT + 174];
+    if info.iter().any(|b| *b != 0) {
+        let mut words = vec!["driver".to_string()];
+        words.extend(differences(info, &[0; 174], &DRIVER));
+        text.push_str(&wrapped(&words));
+    }
+    let room = whole.len() / BLOCK - 1;
+    let phys = usize::from(whole[0]).min(MOST_PHYS).min(room);
+    for n in 0..phys {
+        text.push_str(&wrapped(&phy::to_words(&whole[BLOCK * (1 + n)..], n)));
+    }
+    for i in 0..usize::from(whole[1]).min(MOST_ROWS) {
+        let Some(row) = whole.get(row_at(phys, i)..row_at(phys, i) + ROW_BYTES) else {
+            break;
+        };
+        let mut words = vec!["row".to_string()];
+        words.extend(differences(row, &[0; ROW_BYTES], &ROW));
+        text.push_str(&wrapped(&words));
+    }
+    text
+}
+
+fn remade(text: &str) -> Result<Vec<u8>, String> {
+    parse(text).map_err(|fault| format!("the description cannot be read back: {fault}"))
+}
+
+fn place(name: &str, at: usize, value: u8) -> String {
+    format!("{name} {} {} {value:02X}h\n", at / BLOCK, at % BLOCK)
+}
+
+/// The words in lines of at most `COLUMNS`, those after the first indented.
+fn wrapped(words: &[String]) -> String {
+    let mut text = String::new();
+    let mut column = 0;
+    for word in words {
+        if column > 0 && column + 1 + word.len() > COLUMNS {
+            text.push_str("\n   ");
+            column = 3;
+        }
+        if column > 0 {
+            text.push(' ');
+            column += 1;
+        }
+        text.push_str(word);
+        column += word.len();
+    }
+    text.push('\n');
+    text
+}
+
+#[cfg(test)]
+mod tests {
+    use super::*;
+
+    fn round(file: &[u8]) -> String {
+        let text = describe(file).unwrap();
+        assert_eq!(parse(&text).unwrap(), file, "{text}");
+        text
+    }
+
+    #[test]
+    fn a_description_and_back() {
+        let text = "\
+driver name=\"ash\" description=\"A lab adapter\" major=1 csmi-minor=81
+phy attached=sata signature=ata attached-address=5000C50000000001 invalid-dword=3
+phy attached=edge port=0
+phy
+row address=5000C50000000001 target=1
+row address=5000C50000000002 lun=0001000000000000 host=1 path=2 target=3 os-lun=4
+";
+        assert_eq!(round(&parse(text).unwrap()), text);
+    }
+
+    #[test]
+    fn damaged_files_and_back() {
+        let text = "driver name=\"x\"\nphy attached=sata\nphy\nrow target=1\n";
+        for damage in [
+            "byte 0 0 33\n",
+            "byte 0 1 65\n",
+            "byte 0 1 26\n",
+            "byte 1 36 40h\n",
+            "byte 2 507 1\n",
+            "length 511\n",
+            "length 0\n",
+            "length 5000\ndamage 7 3 09h\n",
+            "damage 0 508 07h\n",
+            "damage 3 300 FFh\n",
+        ] {
+            round(&parse(&format!("{text}{damage}")).unwrap());
+        }
+        assert_eq!(round(&[]), "length 0\n");
+        round(&[0xFF; 7 * BLOCK + 5]);
+        round(&[8]);
+    }
+
+    #[test]
+    fn every_byte_of_a_file_comes_back() {
+        let whole = parse("phy attached=sas\nphy\nrow\nrow target=1").unwrap();
+        for at in 0..whole.len() {
+            for value in [0x01, 0x10, 0xFF] {
+                let mut file = whole.clone();
+                file[at] = value;
+                round(&file);
+            }
+        }
+    }
+
+    #[test]
+    fn long_lines_go_on() {
+        let fields = "attached=sata signature=ata address=5000C50000000001 attached-address=5000C50000000002";
+        let text = round(&parse(&format!("phy {fields} fixed=1 changes=3 class=2")).unwrap());
+        assert!(text.lines().all(|line| line.len() <= COLUMNS));
+        assert_eq!(text.lines().count(), 2);
+    }
+}

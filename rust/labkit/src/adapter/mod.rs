@@ -1,0 +1,64 @@
+//! The adapter file (document 01, "Adapter file"): blocks of 512 bytes, each with its check; block 0 with counts and driver info,
+//! then a block for each phy, then the rows.
+
+mod describe;
+mod fields;
+mod parse;
+mod phy;
+
+pub use describe::describe;
+pub use fields::{DRIVER, ROW};
+pub use parse::parse;
+pub use phy::entity_words;
+
+pub const BLOCK: usize = 512;
+/// The bytes of a row, and the rows of a block.
+const ROW_BYTES: usize = 20;
+const ROWS_IN_BLOCK: usize = 25;
+const MOST_PHYS: usize = 32;
+const MOST_ROWS: usize = 64;
+
+/// Where the driver info stands in block 0.
+const DRIVER_AT: usize = 4;
+/// Where the check stands in a block.
+const CHECK_AT: usize = 508;
+
+/// The check of a block: the sum of the 127 little-endian words before it, plus the block's number, plus 1.
+pub fn check(block: &[u8], number: usize) -> u32 {
+    let word = |w: &[u8]| u32::from_le_bytes([w[0], w[1], w[2], w[3]]);
+    let sum = |n: u32, w: &[u8]| n.wrapping_add(word(w));
+    let first = (number as u32).wrapping_add(1);
+    block[..CHECK_AT].chunks(4).fold(first, sum)
+}
+
+/// Writes the check of every block.
+fn seal(file: &mut [u8]) {
+    for (number, block) in file.chunks_mut(BLOCK).enumerate() {
+        let check = check(block, number);
+        block[CHECK_AT..].copy_from_slice(&check.to_le_bytes());
+    }
+}
+
+/// Where row i stands in a file of p phys.
+fn row_at(phys: usize, i: usize) -> usize {
+    BLOCK * (1 + phys + i / ROWS_IN_BLOCK) + ROW_BYTES * (i % ROWS_IN_BLOCK)
+}
+
+/// The length of a file of p phys and a rows.
+fn file_length(phys: usize, rows: usize) -> usize {
+    BLOCK * (1 + phys + rows.div_ceil(ROWS_IN_BLOCK))
+}
+
+#[cfg(test)]
+mod tests {
+    use super::*;
+
+    #[test]
+    fn the_starred_check_and_lengths() {
+        assert_eq!(check(&[0; BLOCK], 3), 4);
+        assert_eq!(file_length(4, 25), 3072);
+        assert_eq!(file_length(4, 26), 3584);
+        assert_eq!(row_at(4, 25), 3072);
+        assert_eq!(check(&[0xFF; BLOCK], 0), 1u32.wrapping_sub(127));
+    }
+}

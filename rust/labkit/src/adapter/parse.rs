@@ -1,0 +1,201 @@
+//! An adapter file made from its description.
+
+use super::fields::{DRIVER, ROW};
+use super::{file_length, phy, row_at, seal, BLOCK, DRIVER_AT, MOST_PHYS, MOST_ROWS, ROW_BYTES};
+use crate::field::fill;
+use crate::text::{lines, Line};
+use crate::value::{number, MOST_BYTES};
+use crate::Fault;
+
+/// What the lines say, in the order in which the file is made: blocks, single bytes, checks, length, damaged bytes.
+#[derive(Default)]
+struct Description {
+    driver: Option<[u8; 174]>,
+    phys: Vec<[u8; BLOCK]>,
+    rows: Vec<[u8; ROW_BYTES]>,
+    bytes: Vec<Place>,
+    length: Option<usize>,
+    damage: Vec<Place>,
+}
+
+/// One byte of the file and its value, and the line that says so.
+struct Place {
+    line: usize,
+    at: usize,
+    value: u8,
+}
+
+/// The file that a description makes.
+pub fn parse(text: &str) -> Result<Vec<u8>, Fault> {
+    let mut said = Description::default();
+    for mut line in lines(text)? {
+        said.add(&mut line)?;
+        line.finish()?;
+    }
+    said.file()
+}
+
+impl Description {
+    fn add(&mut self, line: &mut Line) -> Result<(), Fault> {
+        match line.name.as_str() {
+            "driver" => self.add_driver(line),
+            "phy" => self.add_phy(line),
+            "row" => self.add_row(line),
+            "byte" => add_place(&mut self.bytes, line),
+            "damage" => add_place(&mut self.damage, line),
+            "length" => self.add_length(line),
+            other => {
+                let reason = format!("'{other}' is none of driver, phy, row, byte, length, damage");
+                Err(Fault::new(line.number, reason))
+            }
+        }
+    }
+
+    fn add_driver(&mut self, line: &mut Line) -> Result<(), Fault> {
+        let mut info = [0; 174];
+        fill(&mut info, &DRIVER, line)?;
+        once(&mut self.driver, info, line)
+    }
+
+    fn add_phy(&mut self, line: &mut Line) -> Result<(), Fault> {
+        if self.phys.len() == MOST_PHYS {
+            return Err(Fault::new(line.number, "more than 32 phys"));
+        }
+        self.phys.push(phy::from_line(line, self.phys.len())?);
+        Ok(())
+    }
+
+    fn add_row(&mut self, line: &mut Line) -> Result<(), Fault> {
+        if self.rows.len() == MOST_ROWS {
+            return Err(Fault::new(line.number, "more than 64 rows"));
+        }
+        let mut row = [0; ROW_BYTES];
+        fill(&mut row, &ROW, line)?;
+        self.rows.push(row);
+        Ok(())
+    }
+
+    fn add_length(&mut self, line: &mut Line) -> Result<(), Fault> {
+        let word = line.expect("a number of bytes")?;
+        let length = number(&word.value, MOST_BYTES as u64).map_err(|e| word.fault(e))?;
+        once(&mut self.length, length as usize, line)
+    }
+
+    fn file(&self) -> Result<Vec<u8>, Fault> {
+        let mut file = vec![0; file_length(self.phys.len(), self.rows.len())];
+        file[0] = self.phys.len() as u8;
+        file[1] = self.rows.len() as u8;
+        if let Some(info) = &self.driver {
+            file[DRIVER_AT..DRIVER_AT + info.len()].copy_from_slice(info);
+        }
+        for (n, block) in self.phys.iter().enumerate() {
+            let at = BLOCK * (1 + n);
+            file[at..at + BLOCK].copy_from_slice(block);
+        }
+        for (i, row) in self.rows.iter().enumerate() {
+            let at = row_at(self.phys.len(), i);
+            file[at..at + ROW_BYTES].copy_from_slice(row);
+        }
+        put(&mut file, &self.bytes)?;
+        seal(&mut file);
+        file.resize(self.length.unwrap_or(file.len()), 0);
+        put(&mut file, &self.damage)?;
+        Ok(file)
+    }
+}
+
+/// Keeps what a line says; a second such line is a fault.
+fn once<T>(kept: &mut Option<T>, said: T, line: &Line) -> Result<(), Fault> {
+    match kept.replace(said) {
+        Some(_) => Err(Fault::new(
+            line.number,
+            format!("a second {} line", line.name),
+        )),
+        None => Ok(()),
+    }
+}
+
+/// Adds the place that a line `byte BLOCK OFFSET VALUE` gives.
+fn add_place(places: &mut Vec<Place>, line: &mut Line) -> Result<(), Fault> {
+    let mut next = |most: usize| {
+        let word = line.expect("a block, an offset and a value")?;
+        number(&word.value, most as u64).map_err(|e| word.fault(e))
+    };
+    let block = next(MOST_BYTES / BLOCK)? as usize;
+    let offset = next(BLOCK - 1)? as usize;
+    let value = next(255)? as u8;
+    places.push(Place {
+        line: line.number,
+        at: BLOCK * block + offset,
+        value,
+    });
+    Ok(())
+}
+
+fn put(file: &mut [u8], places: &[Place]) -> Result<(), Fault> {
+    for place in places {
+        let Some(byte) = file.get_mut(place.at) else {
+            return Err(Fault::new(place.line, "the file has no such byte"));
+        };
+        *byte = place.value;
+    }
+    Ok(())
+}
+
+#[cfg(test)]
+mod tests {
+    use super::super::check;
+    use super::*;
+
+    #[test]
+    fn counts_blocks_and_checks() {
+        let text = "driver name=\"lab\" minor=7\nphy attached=sata\nphy\nrow address=5000C50000000001 target=4\n";
+        let file = parse(text).unwrap();
+        assert_eq!(file.len(), 4 * BLOCK);
+        assert_eq!(file[..2], [2, 1]);
+        assert_eq!(file[4..8], *b"lab\0");
+        assert_eq!(file[168..170], [7, 0]);
+        assert_eq!(file[1024 + 20], 1);
+        assert_eq!(file[1536..1538], [0x50, 0]);
+        assert_eq!(file[1536 + 18], 4);
+        for (number, block) in file.chunks(BLOCK).enumerate() {
+            assert_eq!(block[508..], check(block, number).to_le_bytes());
+        }
+    }
+
+    #[test]
+    fn single_bytes_length_and_damage() {
+        let whole = parse("phy").unwrap();
+        let sealed = parse("phy\nbyte 1 200 9").unwrap();
+        assert_eq!((sealed[712], sealed[1020]), (9, whole[1020] + 9));
+        let damaged = parse("damage 1 200 9\nphy").unwrap();
+        assert_eq!((damaged[712], damaged[1020]), (9, whole[1020]));
+        let long = parse("phy\nlength 1030\ndamage 2 5 255").unwrap();
+        assert_eq!((long.len(), long[1029]), (1030, 255));
+        assert_eq!(parse("phy\nlength 0").unwrap(), []);
+    }
+
+    #[test]
+    fn faults_name_line_and_reason() {
+        let fault = |text: &str| parse(text).unwrap_err().to_string();
+        assert_eq!(
+            fault("phy\nrwo"),
+            "line 2: 'rwo' is none of driver, phy, row, byte, length, damage"
+        );
+        assert_eq!(fault("phy\nrow lun=00"), "line 2: lun: 1 bytes, not 8");
+        assert_eq!(fault("phy port=300"), "line 1: port: 300 is over 255");
+        assert_eq!(fault("phy\n\n  prt=3"), "line 3: phy has no field 'prt'");
+        assert_eq!(fault("length 1\nlength 2"), "line 2: a second length line");
+        assert_eq!(
+            fault("byte 1 0"),
+            "line 1: byte needs a block, an offset and a value"
+        );
+        assert_eq!(
+            fault("phy\nbyte 2 0 1"),
+            "line 2: the file has no such byte"
+        );
+        assert_eq!(fault("phy 3"), "line 1: phy does not take '3'");
+        assert_eq!(fault(&"phy\n".repeat(33)), "line 33: more than 32 phys");
+        assert_eq!(fault(&"row\n".repeat(65)), "line 65: more than 64 rows");
+    }
+}

@@ -1,0 +1,143 @@
+//! The names of numbers: control codes and return codes from 001's section 10, the call's own numbers from document 01, and the
+//! few others that a reply shows.
+
+/// Control codes under their names of section 10, without `CC_CSMI_SAS_` and in lower case.
+pub const CONTROL_CODES: [(u32, &str); 18] = [
+    (1, "get-driver-info"),
+    (2, "get-cntlr-config"),
+    (3, "get-cntlr-status"),
+    (4, "firmware-download"),
+    (10, "get-raid-info"),
+    (11, "get-raid-config"),
+    (20, "get-phy-info"),
+    (21, "set-phy-info"),
+    (22, "get-link-errors"),
+    (23, "smp-passthru"),
+    (24, "ssp-passthru"),
+    (25, "stp-passthru"),
+    (26, "get-sata-signature"),
+    (27, "get-scsi-address"),
+    (28, "get-device-address"),
+    (29, "task-management"),
+    (30, "get-connector-info"),
+    (60, "phy-control"),
+];
+
+/// The return code of a denied request, STATUS_WRITE_ATTEMPTED.
+pub const DENIED: u32 = 4;
+
+const RETURN_CODES: [(u32, &str); 20] = [
+    (0, "success"),
+    (1, "failed"),
+    (2, "bad control code"),
+    (3, "invalid parameter"),
+    (DENIED, "denied, write attempted"),
+    (2000, "phy info not changeable"),
+    (2001, "link rate out of range"),
+    (2002, "phy does not exist"),
+    (2003, "phy does not match port"),
+    (2004, "phy cannot be selected"),
+    (2005, "select phy or port"),
+    (2006, "port does not exist"),
+    (2007, "port cannot be selected"),
+    (2008, "connection failed"),
+    (2009, "no SATA device"),
+    (2010, "no SATA signature"),
+    (2011, "SCSI emulation"),
+    (2012, "not an end device"),
+    (2013, "no SCSI address"),
+    (2014, "no device address"),
+];
+
+const CALL_NUMBERS: [(u32, &str); 8] = [
+    (100, "buffer too short"),
+    (101, "bad level text"),
+    (102, "file length"),
+    (103, "block check"),
+    (104, "count or field"),
+    (105, "shared row"),
+    (106, "medium length"),
+    (107, "state breaks the rules"),
+];
+
+const LINK_RATES: [(u32, &str); 6] = [
+    (0, "unknown"),
+    (1, "disabled"),
+    (2, "failed"),
+    (3, "spin-up hold"),
+    (8, "1.5 Gb/s"),
+    (9, "3.0 Gb/s"),
+];
+
+const DEVICE_TYPES: [(u32, &str); 4] = [
+    (0x00, "no device"),
+    (0x10, "end device"),
+    (0x20, "edge expander"),
+    (0x30, "fanout expander"),
+];
+
+fn look_up(table: &[(u32, &'static str)], number: u32) -> Option<&'static str> {
+    table.iter().find(|row| row.0 == number).map(|row| row.1)
+}
+
+pub fn control_name(code: u32) -> Option<&'static str> {
+    look_up(&CONTROL_CODES, code)
+}
+
+pub fn control_code(name: &str) -> Option<u32> {
+    CONTROL_CODES
+        .iter()
+        .find(|row| row.1 == name)
+        .map(|row| row.0)
+}
+
+/// A return code with its name: `2002 phy does not exist`.
+pub fn return_words(code: u32) -> String {
+    with_name(code, look_up(&RETURN_CODES, code))
+}
+
+/// A call's own number with its meaning: `100 buffer too short`.
+pub fn call_words(number: u32) -> String {
+    with_name(number, look_up(&CALL_NUMBERS, number))
+}
+
+/// A link rate with its name: `9 (3.0 Gb/s)`.
+pub fn rate_words(rate: u32) -> String {
+    let name = look_up(&LINK_RATES, rate).unwrap_or("not a rate");
+    format!("{rate} ({name})")
+}
+
+pub fn device_words(device_type: u32) -> String {
+    match look_up(&DEVICE_TYPES, device_type) {
+        Some(name) => name.to_string(),
+        None => format!("device type {device_type:02X}h"),
+    }
+}
+
+fn with_name(number: u32, name: Option<&str>) -> String {
+    format!("{number} {}", name.unwrap_or("(no name)"))
+}
+
+#[cfg(test)]
+mod tests {
+    use super::*;
+
+    #[test]
+    fn names_of_section_10() {
+        assert_eq!(control_code("stp-passthru"), Some(25));
+        assert_eq!(control_name(28), Some("get-device-address"));
+        assert_eq!(control_name(99), None);
+        assert_eq!(return_words(0), "0 success");
+        assert_eq!(return_words(2002), "2002 phy does not exist");
+        assert_eq!(return_words(77), "77 (no name)");
+        assert_eq!(call_words(104), "104 count or field");
+        assert_eq!(rate_words(8), "8 (1.5 Gb/s)");
+        assert_eq!(device_words(0x20), "edge expander");
+    }
+
+    #[test]
+    fn no_number_twice() {
+        let rising = |table: &[(u32, &str)]| table.windows(2).all(|w| w[0].0 < w[1].0);
+        assert!(rising(&CONTROL_CODES) && rising(&RETURN_CODES) && rising(&CALL_NUMBERS));
+    }
+}

@@ -1,0 +1,200 @@
+//! Two runs of one session side by side, request by request, and the mark.
+
+use super::transcript::{Answer, Transcript};
+use super::words::request_words;
+use crate::names;
+use crate::session::split;
+
+/// Two runs of a session, under the low level and under the high one.
+#[derive(Debug)]
+pub struct Comparison {
+    rows: Vec<Row>,
+    openings: Vec<String>,
+    cut: bool,
+}
+
+#[derive(Debug)]
+struct Row {
+    request: String,
+    low: Option<Answer>,
+    high: Option<Answer>,
+}
+
+/// Holds two runs against each other; a run that does not fit the session is refused with a reason.
+pub fn compare(session: &[u8], low: &Transcript, high: &Transcript) -> Result<Comparison, String> {
+    let cut = split(session);
+    let count = cut.requests.len();
+    let low_answers = answers("low", low, count, !cut.tail.is_empty())?;
+    let high_answers = answers("high", high, count, !cut.tail.is_empty())?;
+    let mut rows = Vec::new();
+    for (i, request) in cut.requests.iter().enumerate() {
+        rows.push(Row {
+            request: request_words(request),
+            low: low_answers.map(|answers| answers[i]),
+            high: high_answers.map(|answers| answers[i]),
+        });
+    }
+    Ok(Comparison {
+        rows,
+        openings: [refused("low", low), refused("high", high)].concat(),
+        cut: !cut.tail.is_empty(),
+    })
+}
+
+/// The answers of a run that fits the session; none of a refused opening.
+fn answers<'a>(
+    name: &str,
+    run: &'a Transcript,
+    requests: usize,
+    has_tail: bool,
+) -> Result<Option<&'a [Answer]>, String> {
+    let Transcript::Run { answers, cut } = run else {
+        return Ok(None);
+    };
+    if answers.len() != requests {
+        let count = answers.len();
+        return Err(format!(
+            "the {name} run answers {count} requests, the session has {requests}"
+        ));
+    }
+    if *cut != has_tail {
+        return Err(format!(
+            "the {name} run and the session disagree about a cut request"
+        ));
+    }
+    Ok(Some(answers))
+}
+
+fn refused(name: &str, run: &Transcript) -> Vec<String> {
+    match run {
+        Transcript::Refused(number) => {
+            vec![format!(
+                "{name}: opening refused, {}",
+                names::call_words(*number)
+            )]
+        }
+        Transcript::Run { .. } => Vec::new(),
+    }
+}
+
+impl Row {
+    fn differs(&self) -> bool {
+        self.low != self.high
+    }
+
+    fn words(answer: &Option<Answer>) -> String {
+        match answer {
+            Some(answer) => answer.words(),
+            None => "not opened".to_string(),
+        }
+    }
+}
+
+impl Comparison {
+    pub fn differing(&self) -> usize {
+        self.rows.iter().filter(|row| row.differs()).count()
+    }
+
+    pub fn denied_low(&self) -> usize {
+        let denied = |row: &&Row| row.low.is_some_and(|answer| answer.is_denied());
+        self.rows.iter().filter(denied).count()
+    }
+
+    /// How many requests differ, and how many were denied in the low run.
+    pub fn mark(&self) -> String {
+        format!(
+            "mark: {} of {} differ, {} denied low",
+            self.differing(),
+            self.rows.len(),
+            self.denied_low()
+        )
+    }
+
+    /// The table, the openings that were refused, and the mark in the last line.
+    pub fn table(&self) -> String {
+        let mut cells = vec![["no", "request", "low", "high", ""].map(String::from)];
+        for (i, row) in self.rows.iter().enumerate() {
+            cells.push([
+                (i + 1).to_string(),
+                row.request.clone(),
+                Row::words(&row.low),
+                Row::words(&row.high),
+                if row.differs() { "differs" } else { "" }.to_string(),
+            ]);
+        }
+        if self.cut {
+            cells.push(["", "a last request, cut", "", "", ""].map(String::from));
+        }
+        let mut text = columns(&cells);
+        for line in self.openings.iter().chain([&self.mark()]) {
+            text.push_str(line);
+            text.push('\n');
+        }
+        text
+    }
+}
+
+/// The cells in columns, each as wide as its widest cell; numbers stand at the right.
+fn columns(cells: &[[String; 5]]) -> String {
+    let width = |column: usize| cells.iter().map(|row| row[column].len()).max().unwrap_or(0);
+    let [number, request, low, high] = [0, 1, 2, 3].map(width);
+    let line = |row: &[String; 5]| {
+        let [a, b, c, d, e] = row;
+        let whole = format!("{a:>number$}  {b:<request$}  {c:<low$}  {d:<high$}  {e}");
+        format!("{}\n", whole.trim_end())
+    };
+    cells.iter().map(line).collect()
+}
+
+#[cfg(test)]
+mod tests {
+    use super::*;
+    use crate::session::parse;
+
+    fn run(text: &str) -> Transcript {
+        Transcript::parse(text).unwrap()
+    }
+
+    #[test]
+    fn side_by_side() {
+        let session = parse("get-phy-info\nset-phy-info phy=9\nraw 00\ntail 01").unwrap();
+        let low = run("request call code\n1 0 0\n2 0 4\n3 100 -\ncut\n");
+        let high = run("request call code\n1 0 0\n2 0 2002\n3 100 -\ncut\n");
+        let compared = compare(&session, &low, &high).unwrap();
+        assert_eq!((compared.differing(), compared.denied_low()), (1, 1));
+        let table = compared.table();
+        let lines: Vec<&str> = table.lines().collect();
+        assert_eq!(lines.len(), 6);
+        assert!(lines[2].contains("4 denied, write attempted"));
+        assert!(lines[2].contains("2002 phy does not exist"));
+        assert!(lines[2].ends_with("differs") && !lines[1].ends_with("differs"));
+        assert_eq!(lines[4].trim(), "a last request, cut");
+        assert_eq!(lines[5], "mark: 1 of 3 differ, 1 denied low");
+    }
+
+    #[test]
+    fn refused_openings() {
+        let session = parse("get-phy-info").unwrap();
+        let opened = run("request call code\n1 0 0\n");
+        let one = compare(&session, &run("open 101\n"), &opened).unwrap();
+        assert_eq!(one.mark(), "mark: 1 of 1 differ, 0 denied low");
+        assert!(one
+            .table()
+            .contains("low: opening refused, 101 bad level text\n"));
+        let both = compare(&session, &run("open 104\n"), &run("open 104\n")).unwrap();
+        assert_eq!(both.mark(), "mark: 0 of 1 differ, 0 denied low");
+    }
+
+    #[test]
+    fn runs_that_do_not_fit() {
+        let session = parse("get-phy-info\nget-phy-info").unwrap();
+        let one = run("request call code\n1 0 0\n");
+        let two = run("request call code\n1 0 0\n2 0 0\n");
+        let cut = run("request call code\n1 0 0\n2 0 0\ncut\n");
+        assert_eq!(
+            compare(&session, &two, &one).unwrap_err(),
+            "the high run answers 1 requests, the session has 2"
+        );
+        assert!(compare(&session, &cut, &two).is_err());
+    }
+}

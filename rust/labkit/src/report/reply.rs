@@ -1,0 +1,148 @@
+//! A reply in words: the return code, the fields of its structure, and which of them the reply changed.
+
+use crate::adapter::entity_words;
+use crate::field::Field;
+use crate::names;
+use crate::session::{control_code, layout, HEADER, RETURN_CODE, STP_PASSTHRU};
+use crate::value::show_bytes;
+
+/// The reply to a request in words, or why the two do not fit.
+pub fn reply(request: &[u8], reply: &[u8]) -> Result<String, String> {
+    if request.len() != reply.len() {
+        let (sent, got) = (request.len(), reply.len());
+        return Err(format!("the request has {sent} bytes, the reply {got}"));
+    }
+    let Some(control) = control_code(reply) else {
+        return Ok("no header, so no return code\n".to_string());
+    };
+    let code = RETURN_CODE.get(reply);
+    let name = names::control_name(control).unwrap_or("unknown control code");
+    let mut text = format!("{name} ({control}): {}\n", names::return_words(code));
+    let layout = layout(control);
+    let (sent, got) = (&request[HEADER..], &reply[HEADER..]);
+    if got.len() < layout.size || layout.fields.is_empty() {
+        text.push_str(match sent == got {
+            true => "the body is as sent\n",
+            false => "the body is not as sent\n",
+        });
+        return Ok(text);
+    }
+    text.push_str("* marks what the reply changed\n");
+    for field in layout.fields {
+        text.push_str(&shown(field, sent, got, code == 0));
+    }
+    if control == STP_PASSTHRU {
+        let (before, data) = (&sent[layout.size..], &got[layout.size..]);
+        text.push_str(&row("data", &show_bytes(data), before != data));
+    }
+    Ok(text)
+}
+
+/// The line of one field, and of the entities of code 20 a line for each phy.
+fn shown(field: &Field, sent: &[u8], got: &[u8], success: bool) -> String {
+    let part = field.at..field.at + field.size;
+    let changed = sent[part.clone()] != got[part.clone()];
+    if field.name != "entities" {
+        let value = match success {
+            true => meaning(field, got),
+            false => field.show(got),
+        };
+        return row(field.name, &value, changed);
+    }
+    let phys = usize::from(got[0]).min(32);
+    let entities = got[part].chunks(64).take(phys).enumerate();
+    entities
+        .map(|(n, entity)| row(&format!("phy {n}"), &entity_words(entity), changed))
+        .collect()
+}
+
+/// A field's value, with words for the connection and the status FIS of a code 25.
+fn meaning(field: &Field, got: &[u8]) -> String {
+    let shown = field.show(got);
+    let part = &got[field.at..];
+    let words = match (field.name, part) {
+        ("connection", [0, ..]) => "open accept",
+        ("status-fis", [_, _, 0x50, 0, ..]) => "success",
+        ("status-fis", [_, _, 0x51, 0x04, ..]) => "error, aborted",
+        ("status-fis", [_, _, 0x51, 0x10, ..]) => "error, past the last sector",
+        _ => return shown,
+    };
+    format!("{shown} ({words})")
+}
+
+fn row(name: &str, value: &str, changed: bool) -> String {
+    let mark = if changed { '*' } else { ' ' };
+    format!("{mark} {name:<18} {value}\n")
+}
+
+#[cfg(test)]
+mod tests {
+    use super::*;
+    use crate::session::parse;
+
+    fn request(line: &str) -> Vec<u8> {
+        parse(line).unwrap()[4..].to_vec()
+    }
+
+    #[test]
+    fn counters_in_words() {
+        let sent = request("get-link-errors phy=1");
+        let got = request("get-link-errors phy=1 loss-of-sync=7");
+        assert_eq!(
+            reply(&sent, &got).unwrap(),
+            "get-link-errors (22): 0 success
+* marks what the reply changed
+  phy                1
+  reset              0
+  reserved           0000
+  invalid-dword      0
+  running-disparity  0
+* loss-of-sync       7
+  reset-problem      0
+"
+        );
+    }
+
+    #[test]
+    fn a_status_fis_and_data_in_words() {
+        let sent = request("stp-passthru command=20h data=00*12");
+        let got =
+            request("stp-passthru command=20h data=5A*12 data-bytes=12 status-fis=34005000+00*16");
+        let text = reply(&sent, &got).unwrap();
+        assert!(text.contains("* status-fis         340050+00*17 (success)\n"));
+        assert!(text.contains("* data               5A*12\n"));
+        let got = request("stp-passthru command=20h data=00*12 status-fis=34005110+00*16");
+        let text = reply(&sent, &got).unwrap();
+        assert!(text.contains("(error, past the last sector)"));
+        assert!(text.contains("  data               00*12\n"));
+    }
+
+    #[test]
+    fn phys_in_words() {
+        let sent = request("get-phy-info");
+        let got = request("get-phy-info phys=2");
+        let text = reply(&sent, &got).unwrap();
+        assert!(text.contains("* phys               2\n"));
+        assert_eq!(
+            text.lines()
+                .filter(|line| line.contains("no device"))
+                .count(),
+            2
+        );
+    }
+
+    #[test]
+    fn refusals_in_words() {
+        let sent = request("get-cntlr-config");
+        let got = request("get-cntlr-config return-code=2");
+        assert_eq!(
+            reply(&sent, &got).unwrap(),
+            "get-cntlr-config (2): 2 bad control code\nthe body is as sent\n"
+        );
+        assert_eq!(reply(&[1], &[1]).unwrap(), "no header, so no return code\n");
+        assert_eq!(
+            reply(&[1], &[1, 2]).unwrap_err(),
+            "the request has 1 bytes, the reply 2"
+        );
+    }
+}

@@ -1,0 +1,119 @@
+//! A request in a few words, for one column of a table.
+
+use crate::names;
+use crate::session::{control_code, layout, HEADER, STP_PASSTHRU};
+use crate::value::show_bytes;
+
+/// The request's name and the fields that say what it asks for.
+pub fn request_words(request: &[u8]) -> String {
+    let Some(control) = control_code(request) else {
+        return format!("{} bytes, no header", request.len());
+    };
+    let Some(name) = names::control_name(control) else {
+        return format!("control code {control}");
+    };
+    let layout = layout(control);
+    let body = &request[HEADER..];
+    if body.len() < layout.size {
+        return format!("{name}, cut off");
+    }
+    let byte = |at: usize| u32::from(body[at]);
+    match control {
+        21 => format!("{name} phy {}{}", byte(0), changes(body)),
+        22 => format!(
+            "{name} phy {}{}",
+            byte(0),
+            if byte(1) == 0 { "" } else { ", reset" }
+        ),
+        STP_PASSTHRU => format!("{name} {}: {}{}", selected(body), command(body), rate(body)),
+        26 => format!("{name} phy {}", byte(0)),
+        27 => format!("{name} {}", show_bytes(&body[..8])),
+        28 => format!("{name} {}/{}/{}/{}", byte(0), byte(1), byte(2), byte(3)),
+        _ => name.to_string(),
+    }
+}
+
+/// What a code 21 asks for.
+fn changes(body: &[u8]) -> String {
+    let mut words = String::new();
+    match body[1] {
+        0 => {}
+        1 => words.push_str(", disable"),
+        other => words.push_str(&format!(", negotiated {other}")),
+    }
+    for (name, value) in [("minimum", body[2]), ("maximum", body[3])] {
+        if value != 0 {
+            words.push_str(&format!(", {name} {value}"));
+        }
+    }
+    words
+}
+
+/// The phy and the port that a code 25 selects.
+fn selected(body: &[u8]) -> String {
+    match (body[0], body[1]) {
+        (0xFF, 0xFF) => "no phy, no port".to_string(),
+        (0xFF, port) => format!("port {port}"),
+        (phy, 0xFF) => format!("phy {phy}"),
+        (phy, port) => format!("phy {phy} port {port}"),
+    }
+}
+
+/// The ATA command of a code 25.
+fn command(body: &[u8]) -> String {
+    let lba = u32::from_le_bytes([body[20], body[21], body[22], body[23] & 0x0F]);
+    let count = body[28];
+    match body[18] {
+        0x20 => format!("read LBA {lba} count {count}"),
+        0x30 => format!("write LBA {lba} count {count}"),
+        0xEC => "identify device".to_string(),
+        0xE5 => "check power mode".to_string(),
+        other => format!("command {other:02X}h"),
+    }
+}
+
+/// The connection rate of a code 25, if it asks for one.
+fn rate(body: &[u8]) -> String {
+    match body[2] {
+        0 => String::new(),
+        rate => format!(", rate {rate}"),
+    }
+}
+
+#[cfg(test)]
+mod tests {
+    use super::*;
+    use crate::session::parse;
+
+    #[test]
+    fn requests_in_words() {
+        for (line, words) in [
+            ("get-phy-info", "get-phy-info"),
+            (
+                "set-phy-info phy=1 minimum=8",
+                "set-phy-info phy 1, minimum 8",
+            ),
+            ("set-phy-info negotiated=1", "set-phy-info phy 0, disable"),
+            ("get-link-errors reset=1", "get-link-errors phy 0, reset"),
+            (
+                "stp-passthru phy=1 command=30h lba=3 count=2",
+                "stp-passthru phy 1: write LBA 3 count 2",
+            ),
+            (
+                "stp-passthru phy=FFh port=2 rate=9 command=E8h",
+                "stp-passthru port 2: command E8h, rate 9",
+            ),
+            ("get-sata-signature phy=4", "get-sata-signature phy 4"),
+            (
+                "get-scsi-address address=5000C50000000001",
+                "get-scsi-address 5000C50000000001",
+            ),
+            ("get-device-address target=3", "get-device-address 0/0/3/0"),
+            ("get-link-errors buffer=47", "get-link-errors, cut off"),
+            ("request control=99", "control code 99"),
+            ("raw 0102", "2 bytes, no header"),
+        ] {
+            assert_eq!(request_words(&parse(line).unwrap()[4..]), words);
+        }
+    }
+}
