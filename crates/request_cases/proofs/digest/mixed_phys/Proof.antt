@@ -1,0 +1,17 @@
+-- `request_cases::digest::mixed_phys` meets its contract. Assumes nothing.
+use Prim.Native.Nat.{_≤_, _-_}
+use borrow.Author.Needs.{needs}
+use Rattle.request_cases.proofs.digest.mixed_phys.Statement.{statement}
+use Rattle.request_cases.proofs.digest.mixed_phys.Tie as tie
+
+abbrev Inv-loop : tie.InvT-loop
+Inv-loop before phys d₀ n₀ d n = n ≤ 32
+
+abbrev μ-loop : tie.MeasureT-loop
+μ-loop before phys d₀ n₀ d n = 32 - n
+
+pub mixed-phys-spec : {M : Type 1} → statement M
+mixed-phys-spec =
+    tie.close
+    (tie.spec Inv-loop μ-loop (λ c. search needs) (λ c. search needs) (λ c. search needs) (λ c κs. search needs)
+    (λ c. search needs) (λ c. search needs) (λ c. search needs) (λ c. search needs))

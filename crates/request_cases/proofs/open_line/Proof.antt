@@ -1,0 +1,14 @@
+-- `request_cases::open_line` meets its contract. Assumes nothing.
+use native.Mathlib.Omega.{arith}
+use lib.ListN.{length-take}
+use borrow.Author.Needs.{needs}
+use Rattle.request_cases.proofs.open_line.Statement.{statement}
+use Rattle.request_cases.proofs.open_line.Tie as tie
+
+pub open-line-spec : {M : Type 1} → statement M
+open-line-spec =
+    tie.close
+    (tie.spec (λ c κs. search needs) (λ c. search needs) (λ c κs. search needs) (λ c. search needs)
+    (λ c κs. search needs) (λ c κs. search needs) (λ c κs. search needs) (λ c. search needs) (λ c. search needs)
+    (λ c. search needs) (λ c. rw length-take (omega arith)) (λ c. search needs) (λ c. rw length-take (omega arith))
+    (λ c κs. search needs) (λ c. search needs) (λ c. search needs))

@@ -1,0 +1,193 @@
+// Makes the two calls, openings and requests, one after the other as the lines of stdin say, and prints for each the call's number, a
+// request's return code, and digests of the file or the buffer, of the medium and of the state. A line is a letter and its words; the
+// word AT:HEX puts bytes at a place, and STEP fills a medium or a buffer before that with a pattern (0: with zeros).
+//
+//   f                                  zeros in place of the file's bytes
+//   p BLOCK AT:HEX ..                  bytes of a block of the file
+//   o MEDIUM FILE STEP TEXT            an opening, with the lengths of the medium and the file, and the level text
+//   q MEDIUM SIZE STEP CODE LENGTH AT:HEX ..   a request, with the lengths of the medium and the buffer, a header, and other bytes
+//   l LEVEL PHYS ROWS                  the state gets another level and other counts
+//   y PHY AT:HEX ..                    the state gets the phy of a block that has these bytes
+//   w ROW AT:HEX ..                    the state gets the row that has these bytes
+//   # ..                               a heading, printed as it stands
+mod damage;
+mod digest;
+mod line;
+
+use damage::damage;
+use digest::digest;
+use digest::state_digest;
+use level::Level;
+use libc::STDIN_FILENO;
+use libc::STDOUT_FILENO;
+use line::field;
+use line::fill;
+use line::past;
+use line::patch;
+use line::word;
+use state::State;
+ghost use mathlib.Core.Path.{_≡_};
+ghost use Prim.Native.Nat.{_<_, _≤_};
+ghost use lib.ListN.{length};
+
+fn say(text: &[u8]) {
+    io::write_all(STDOUT_FILENO, text);
+}
+
+fn say_number(n: u64) {
+    say(b" ");
+    io::print_decimal(STDOUT_FILENO, n);
+}
+
+// The digests of a file or a buffer, of the medium and of the state.
+fn show(s: &[u8], medium: &[u8], state: State) {
+    say_number(digest(1, s));
+    say_number(digest(1, medium));
+    say_number(state_digest(state));
+    say(b"\n");
+}
+
+fn open(text: &[u8], file: &[u8], medium: &[u8]) -> State {
+    let r = dispatch::open(text, file, medium);
+    let state = r.state;
+    say(b"o");
+    say_number(r.call as u64);
+    show(file, medium, state);
+    state
+}
+
+fn open_line(s: &[u8], file: &[u8], medium: &mut [u8]) -> State
+    requires { ⌜ (length (now file) ≡ 65536) × (length (now medium) ≡ 262144) ⌝ }
+{
+    let m = (field(s, 1) % 262145) as usize;
+    let f = (field(s, 2) % 65537) as usize;
+    let text = word(s, 4);
+    fill(medium, field(s, 3));
+    open(&s[text..], &file[..f], &medium[..m])
+}
+
+fn put_header(buffer: &mut [u8], control: u32, n: u32)
+    requires { ⌜ 28 ≤ length (now buffer) ⌝ }
+{
+    wire::copy_at(buffer, 0, b"\x1c\0\0\0CSMISAS\0");
+    wire::write32(buffer, 16, control);
+    wire::write32(buffer, 24, n);
+}
+
+fn put_request(buffer: &mut [u8], s: &[u8])
+    requires { ⌜ 28 ≤ length (now buffer) ⌝ }
+{
+    fill(buffer, field(s, 3));
+    put_header(buffer, field(s, 4), field(s, 5));
+    patch(buffer, s, 6);
+}
+
+fn say_code(call: u32, buffer: &[u8]) {
+    if call == 0 {
+        if 28 <= buffer.len() {
+            say_number(wire::read32(buffer, 20) as u64);
+            return;
+        }
+    }
+    say(b" -");
+}
+
+fn show_reply(call: u32, buffer: &[u8], medium: &[u8], state: State) {
+    say(b"q");
+    say_number(call as u64);
+    say_code(call, buffer);
+    show(buffer, medium, state);
+}
+
+fn send(before: State, medium: &mut [u8], buffer: &mut [u8]) -> State {
+    let h = dispatch::request(before, medium, buffer);
+    let state = h.state;
+    show_reply(h.call, buffer, medium, state);
+    state
+}
+
+fn request_line(state: State, s: &[u8], medium: &mut [u8]) -> State
+    requires { ⌜ length (now medium) ≡ 262144 ⌝ }
+{
+    let mut buffer = io::large_buffer();
+    let m = (field(s, 1) % 262145) as usize;
+    let n = (field(s, 2) % 65537) as usize;
+    put_request(&mut buffer, s);
+    send(state, &mut medium[..m], &mut buffer[..n])
+}
+
+fn heading(s: &[u8]) {
+    say(s);
+    say(b"\n");
+}
+
+fn patch_block(s: &[u8], file: &mut [u8], k: usize)
+    requires { ⌜ (length (now file) ≡ 65536) × (k < 128) ⌝ }
+{
+    patch(&mut file[512 * k..], s, 2);
+}
+
+fn file_line(s: &[u8], file: &mut [u8], c: u8)
+    requires { ⌜ length (now file) ≡ 65536 ⌝ }
+{
+    if c == b'f' {
+        fill(file, 0);
+        return;
+    }
+    if c == b'p' {
+        patch_block(s, file, (field(s, 1) % 128) as usize);
+        return;
+    }
+    if c == b'#' {
+        heading(s);
+    }
+}
+
+fn call_line(state: State, s: &[u8], file: &[u8], medium: &mut [u8], c: u8) -> State
+    requires { ⌜ (length (now file) ≡ 65536) × (length (now medium) ≡ 262144) ⌝ }
+{
+    if c == b'q' {
+        return request_line(state, s, medium);
+    }
+    if c == b'o' {
+        return open_line(s, file, medium);
+    }
+    damage(state, s, c)
+}
+
+fn do_lines(input: &[u8], file: &mut [u8], medium: &mut [u8])
+    requires { ⌜ (length (now file) ≡ 65536) × (length (now medium) ≡ 262144) ⌝ }
+{
+    let mut state = first_state();
+    let mut from = 0;
+    while from < input.len() {
+        let end = past(input, from, b'\n');
+        let line = &input[from..end - 1];
+        let c = input[from];
+        file_line(line, file, c);
+        state = call_line(state, line, file, medium, c);
+        from = end;
+    }
+}
+
+fn first_state() -> State {
+    State {
+        level: Level::NONE,
+        adapter: adapter::zero_adapter(),
+    }
+}
+
+// Room for the disks of 32 phys.
+fn room() -> [u8; 262144]
+    ensures { λ r. ⌜ 262144 ≡ length r ⌝ }
+{
+    [0; 262144]
+}
+
+fn main() {
+    let mut input = room();
+    let mut file = io::large_buffer();
+    let mut medium = room();
+    let n = io::read_full(STDIN_FILENO, &mut input);
+    do_lines(&input[..n], &mut file, &mut medium);
+}
