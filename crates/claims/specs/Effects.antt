@@ -39,7 +39,7 @@ use Rattle.claims.specs.Run.{Reply, Exchange, replyOf}
 use Rattle.claims.specs.LastWriter.{granted, selects, writesSector, sectorAfter, writesRate, rateAfter}
 use Rattle.claims.specs.Phys.{Moved, moved-refl, setNow, set-code, set-moved, errors-moved, errors-settings, set-rate}
 use Rattle.claims.specs.Disks.{passed-sector, passed-selected, passed-length, passed-code}
-use Rattle.claims.specs.Ways.{served-by, report-code, Ready, handled-by, granted-code, not-granted, in-buffer, status-shown}
+use Rattle.claims.specs.Ways.{served-by, Ready, handled-by, granted-code, not-granted, in-buffer, status-shown}
 
 -- ---- a selection goes by the ports below p alone
 

@@ -10,20 +10,12 @@ use lib.Seq.{length-take-le, getD-drop, getD-append-add}
 use borrow.Author.Tests.{ne-eqb, eqb-true, eqb-false}
 use Rattle.laws.specs.Choice.{either, either-by}
 use Rattle.laws.specs.Splice.{part, splice, part-splice, get-above}
-use Rattle.codes.specs.Codes.{getDriverInfo, getPhyInfo, setPhyInfo, getLinkErrors, stpPassthru, getSataSignature, getScsiAddress, getDeviceAddress, success}
+use Rattle.codes.specs.Codes.{setPhyInfo, getLinkErrors, stpPassthru, success}
 use Rattle.wire.specs.Number.{number, bytes, length-bytes, number-bytes}
-use Rattle.phy.specs.Entity.{isSata}
-use Rattle.rows.specs.Row.{deviceIndex, osIndex}
 use Rattle.level.specs.declared.Level.{Level}
 use Rattle.disk.specs.Laws.{replyStatus}
 use Rattle.adapter.specs.declared.Adapter.{Adapter}
-use Rattle.adapter.specs.Adapter.{phyIn, mediumSize}
-use Rattle.reports.specs.Report.{Report}
-use Rattle.reports.specs.DriverInfo.{driverInfo}
-use Rattle.reports.specs.PhyInfo.{phyInfo}
-use Rattle.reports.specs.Signature.{signatureOf, sataSignature}
-use Rattle.reports.specs.ScsiAddress.{osBytes, scsiAddress}
-use Rattle.reports.specs.DeviceAddress.{deviceBytes, deviceAddress}
+use Rattle.adapter.specs.Adapter.{mediumSize}
 use Rattle.changes.specs.Changed.{left as changedBy}
 use Rattle.changes.specs.SetPhyInfo.{setPhyInfo as setInfo}
 use Rattle.changes.specs.LinkErrors.{linkErrors}
@@ -53,25 +45,7 @@ served-by ad medium code body P set errors pass report =
     (λ _. either-by P (eqb code stpPassthru) (λ h. pass (eqb-true code stpPassthru h))
     (λ m. report (eqb-false code setPhyInfo n) (eqb-false code stpPassthru m))))
 
--- return codes are small
-pub report-code : (ad : Adapter) (code : ℕ) (body : List ℕ) → reportOf ad code body .code ≤ 2014
-unfolding reportOf driverInfo phyInfo sataSignature signatureOf scsiAddress osBytes deviceAddress deviceBytes
-report-code ad code body =
-    let phy = phyIn ad (getD body 0 0) in
-    either Small (eqb code getDriverInfo) (omega arith)
-    (either Small (eqb code getPhyInfo) (omega arith)
-    (either Small (eqb code getSataSignature)
-    (either Small (ltb (getD body 0 0) (ad .«phy_count»))
-    (either Small (isSata phy) (either Small (eqb (phy .held) 1) (omega arith) (omega arith)) (omega arith)) (omega arith))
-    (either Small (eqb code getScsiAddress)
-    (either Small (ltb (deviceIndex (ad .rows) (ad .«row_count») (part body 0 16)) (ad .«row_count»)) (omega arith) (omega arith))
-    (either Small (eqb code getDeviceAddress)
-    (either Small (ltb (osIndex (ad .rows) (ad .«row_count») (part body 0 4)) (ad .«row_count»)) (omega arith) (omega arith))
-    (omega arith)))))
-  where
-    Small : Report → Type 0
-    Small r = r .code ≤ 2014
-
+-- the code of the checks up to the level is small
 pub access-code : (level : Level) (buffer : List ℕ) → accessCode level buffer ≤ 2014
 unfolding accessCode headerCode codeChecked
 access-code level buffer =

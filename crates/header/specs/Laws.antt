@@ -70,25 +70,22 @@ module _ (control n : ℕ) (body : List ℕ) where
 Passes : ℕ → Type 0
 Passes code = code ≡ 0
 
-pub record Header (buffer : List ℕ) : Type 0 where
-  pub known : eqb (structureSize (controlCode buffer)) 0 ≡ false
-  pub signed : signatureHolds (controlCode buffer) buffer ≡ true
-  pub room : structureSize (controlCode buffer) + dataSize (controlCode buffer) (bodyOf buffer) ≤ length (bodyOf buffer)
-
-pub header-passed : (buffer : List ℕ) → headerCode buffer ≡ 0 → Header buffer
+-- its structure and its data are there
+pub header-room : (buffer : List ℕ) → headerCode buffer ≡ 0
+    → structureSize (controlCode buffer) + dataSize (controlCode buffer) (bodyOf buffer) ≤ length (bodyOf buffer)
 unfolding headerCode codeChecked Passes
-header-passed buffer h =
+header-room buffer h =
     let a = came-then Passes (eqb (headerLength buffer) 28) (λ e. omega arith) h in
     let b = came-else Passes (eqb (structureSize (controlCode buffer)) 0) (λ e. omega arith) (a .1) in
     let c = came-then Passes (signatureHolds (controlCode buffer) buffer) (λ e. omega arith) (b .1) in
     let d = came-then Passes (lengthHolds (controlCode buffer) (lengthField buffer) (bodyOf buffer)) (λ e. omega arith) (c .1) in
-    record { known = b .0; signed = c .0; room = length-room (controlCode buffer) (lengthField buffer) (bodyOf buffer) (d .0) }
+    length-room (controlCode buffer) (lengthField buffer) (bodyOf buffer) (d .0)
 
 -- the same of a callee's answer
 pub structure-room : (buffer : List ℕ) (code : ℕ) → code ≡ headerCode buffer → code ≡ 0 → structureSize (controlCode buffer) ≤ length (bodyOf buffer)
-structure-room buffer code e z = omega (arith, header-passed buffer (sym e ∙ z) .room)
+structure-room buffer code e z = omega (arith, header-room buffer (sym e ∙ z))
 
--- ---- a level that was granted
+-- ---- a level check that was passed
 
 pub access-header : (level : Level) (buffer : List ℕ) → accessCode level buffer ≡ 0 → headerCode buffer ≡ 0
 unfolding accessCode
@@ -98,4 +95,4 @@ access-header level buffer h =
 
 pub access-room : (level : Level) (buffer : List ℕ) (code : ℕ) → code ≡ accessCode level buffer → code ≡ 0
     → structureSize (controlCode buffer) + dataSize (controlCode buffer) (bodyOf buffer) ≤ length (bodyOf buffer)
-access-room level buffer code e z = header-passed buffer (access-header level buffer (sym e ∙ z)) .room
+access-room level buffer code e z = header-room buffer (access-header level buffer (sym e ∙ z))

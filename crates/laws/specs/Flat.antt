@@ -14,9 +14,9 @@ use mathlib.Core.Path.{_≡_, refl, sym, _∙_, ap}
 use mathlib.Core.List.{List, [], _++_, append-assoc}
 use Prim.Native.Nat.{ℕ, zero, suc, _+_, _-_, _*_, _<_, _≤_}
 use native.Mathlib.Numerals.{add-one}
-use native.Mathlib.Nat.{le-antisymm, sub-zero, zero-add, suc-add, add-comm, mul-suc, mul-add, add-sub-of-le}
+use native.Mathlib.Nat.{le-antisymm, sub-zero, zero-add, suc-add, add-comm, mul-suc}
 use native.Mathlib.Omega.{arith}
-use lib.ListN.{length, take, drop, replicate, length-append, length-replicate}
+use lib.ListN.{length, take, drop, replicate, length-append}
 use lib.Seq.{take-at, drop-append-add}
 use borrow.Author.Needs.{needs}
 use Rattle.laws.specs.Splice.{splice}
@@ -34,17 +34,6 @@ module _ {A : Type 0} where
   drop-replicate : (k m : ℕ) (z : A) → drop k (replicate (k + m) z) ≡ replicate m z
   drop-replicate zero m z = rw zero-add refl
   drop-replicate (suc k) m z = rw suc-add (drop-replicate k m z)
-
-  pub length-flatTo : (f : ℕ → List A) (n w : ℕ) → ((i : ℕ) → i < n → length (f i) ≡ w) → length (flatTo f n) ≡ w * n
-  unfolding flatTo
-  length-flatTo f zero w h = omega arith
-  length-flatTo f (suc n) w h =
-      length-append (flatTo f n) (f n) ∙ rw (length-flatTo f n w (λ i l. h i (search needs)), h n (search needs)) (omega arith)
-
-  pub length-pieces : (f : ℕ → List A) (n w N : ℕ) (z : A) → ((i : ℕ) → i < n → length (f i) ≡ w) → n ≤ N → length (pieces f n w N z) ≡ w * N
-  unfolding pieces
-  length-pieces f n w N z h k =
-      length-append (flatTo f n) (replicate (w * (N - n)) z) ∙ rw (length-flatTo f n w h, length-replicate, ← mul-add, add-sub-of-le k)
 
   pub pieces-none : (f : ℕ → List A) (w N m : ℕ) (z : A) → m ≡ w * N → replicate m z ≡ pieces f 0 w N z
   unfolding pieces flatTo

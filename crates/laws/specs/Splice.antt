@@ -37,10 +37,6 @@ module _ {A : Type 0} where
   unfolding part
   part-all l = take-length l
 
-  pub part-none : (l : List A) (at : ℕ) → part l at 0 ≡ []
-  unfolding part
-  part-none l at = refl
-
   -- the rest of a list, as it is lent
   pub rest : (l : List A) (k : ℕ) → take (length l - k) (drop k l) ≡ drop k l
   rest l k = ap (λ (n : ℕ). take n (drop k l)) (sym (length-drop k l)) ∙ take-length (drop k l)
@@ -120,16 +116,6 @@ module _ {A : Type 0} where
   pub part-above : (d : List A) (at : ℕ) (s : List A) (i n : ℕ) → at ≤ length d → at + length s ≤ i → part (splice d at s) i n ≡ part d i n
   unfolding part splice
   part-above d at s i n h k = ap (take n) (drop-splice d at s i h k)
-
-  -- putting a part back where it was
-  pub splice-part : (d : List A) (at n : ℕ) → at + n ≤ length d → splice d at (part d at n) ≡ d
-  unfolding part splice
-  splice-part d at n h =
-      let e : length (take n (drop at d)) ≡ n = length-take-le n (drop at d) (rw length-drop (omega arith)) in
-      rw e
-      (ap (λ (l : List A). take at d ++ (take n (drop at d) ++ l)) (sym (drop-drop n at d))
-      ∙ ap (λ (l : List A). take at d ++ l) (take-append-drop n (drop at d))
-      ∙ take-append-drop at d)
 
   -- a slice lent as `&mut m[at..at + n]` and given back as s
   pub lent-back : (m : List A) (at n : ℕ) (s : List A) → length s ≡ n → take at m ++ (s ++ drop n (drop at m)) ≡ splice m at s

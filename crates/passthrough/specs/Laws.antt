@@ -27,15 +27,9 @@ pub selection-past : (phy : PhyIdentifier) (port : PortIdentifier) (p lowest : �
     → r ≡ selection phy port p lowest own → r ≡ selection phy port p lowest own′
 unfolding selection
 selection-past phy port p lowest own own′ r h e =
-    e ∙ by-bool (λ (g : Bool). chain g own ≡ chain g own′) (rw (le-leb p (phy .0) h)) refl (phyGiven phy)
-  where
-    chain : Bool → PortIdentifier → Selection
-    chain g o =
-        cond (not g && not (portGiven port)) (none selectPhyOrPort)
-        (cond (g && leb p (phy .0)) (none phyDoesNotExist)
-        (cond (portGiven port && leb p lowest) (none portDoesNotExist)
-        (cond (g && portGiven port && not (eqb (o .0) (port .0))) (none phyDoesNotMatchPort)
-        (cond g (selected phy) (selected (record { 0 = lowest }))))))
+    e
+    ∙ by-bool (λ (g : Bool). phyGiven phy ≡ g → selection phy port p lowest own ≡ selection phy port p lowest own′)
+    (λ g. rw (g, le-leb p (phy .0) h) refl) (λ g. rw g refl) (phyGiven phy) refl
 
 -- ---- a phy that was selected is below p
 

@@ -1,4 +1,5 @@
 // A line of stdin: its words, their numbers, and the bytes that it puts into a slice.
+ghost use mathlib.Core.Path.{_≡_};
 ghost use Prim.Native.Nat.{_<_, _≤_};
 ghost use lib.ListN.{length};
 
@@ -92,8 +93,10 @@ fn put_word(d: &mut [u8], s: &[u8], at: usize)
     put_bytes(d, number(s, at) as usize, s, from);
 }
 
-// Puts the words from word k on.
-pub fn patch(d: &mut [u8], s: &[u8], k: usize) {
+// Puts the words from word k on; what does not fit is left out.
+pub fn patch(d: &mut [u8], s: &[u8], k: usize)
+    ensures { λ _. ⌜ length (now (d .exit)) ≡ length (now (d .entry)) ⌝ }
+{
     let mut at = word(s, k);
     while at < s.len() {
         put_word(d, s, at);

@@ -1,7 +1,7 @@
 // What the program prints.
 use libc::STDOUT_FILENO;
 
-pub fn say(text: &[u8]) {
+fn say(text: &[u8]) {
     io::write_all(STDOUT_FILENO, text);
 }
 
