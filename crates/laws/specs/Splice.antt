@@ -19,7 +19,7 @@ module _ {A : Type 0} where
 
   -- ---- a part
 
-  drop-take : (b n : ℕ) (l : List A) → drop b (take n l) ≡ take (n - b) (drop b l)
+  pub drop-take : (b n : ℕ) (l : List A) → drop b (take n l) ≡ take (n - b) (drop b l)
   drop-take zero n l = rw sub-zero
   drop-take (suc b) zero l = rw zero-sub refl
   drop-take (suc b) (suc n) [] = sym (take-nil (suc n - suc b))

@@ -1,0 +1,10 @@
+-- `exports::session::write_line` meets its contract. Assumes nothing.
+use Rattle.exports.specs.Laws.{line-written}
+use borrow.Author.Needs.{needs}
+use Rattle.exports.proofs.session.write_line.Statement.{statement}
+use Rattle.exports.proofs.session.write_line.Tie as tie
+
+pub write-line-spec : {M : Type 1} → statement M
+write-line-spec =
+    tie.close
+    (tie.spec (λ c κs. search needs) (λ c κs. search needs) (λ c. search needs) (λ c. search (line-written, needs)))

@@ -1,0 +1,225 @@
+-- What the proofs of this crate cite. Assumes nothing.
+use mathlib.Core.Path.{_≡_, refl, sym, _∙_, ap}
+use mathlib.Core.Bool.{true, false}
+use mathlib.Core.List.{List, [], _++_, append-assoc, append-nil}
+use Prim.Native.Nat.{ℕ, zero, suc, _+_, _-_, _*_, _<_, _≤_}
+use native.Mathlib.Nat.{le-refl, add-assoc, sub-zero, add-zero, zero-add, add-sub-cancel-left}
+use native.Mathlib.Omega.{arith}
+use lib.ListN.{length, take, drop, length-append, length-drop, drop-of-length-le, take-append-drop}
+use lib.Seq.{take-at, drop-at, drop-drop, take-take, length-take-le}
+use borrow.Author.Tests.{le-leb, lt-leb}
+use Rattle.laws.specs.Choice.{came-then, came-else}
+use Rattle.laws.specs.Splice.{part, splice, rest, drop-take}
+use Rattle.wire.specs.Number.{number, bytes, length-bytes}
+use Rattle.state.specs.declared.State.{State}
+use Rattle.dispatch.specs.declared.Handled.{Handled}
+use Rattle.dispatch.specs.Request.{Outcome, outcome, handled}
+use Rattle.claims.specs.Run.{Reply, End, replyOf, entryOf, preceded, run}
+use Rattle.claims.specs.Ways.{handled-by}
+use Rattle.exports.specs.Session.{sizeOf, wholeFirst, firstOf, behindFirst, requestsOf, withReplies, reply, codeOf, lineOf, linesOf, Ran, ran, shown, ranFrom, endFrom, Left, left, afterRequest, sized, turned}
+
+-- ---- where a request ends
+
+module _ (session : List ℕ) (at : ℕ) (k : at ≤ length session) where
+  behind-at : length (drop at session) ≡ length session - at
+  behind-at = length-drop at session
+
+  pub end-short : length session - at < 4 → at ≡ endFrom session at
+  unfolding endFrom wholeFirst
+  end-short h = rw (behind-at, lt-leb 4 (length session - at) h) refl
+
+  module _ (size : ℕ) (e : size ≡ number (part session at 4)) (h : 4 ≤ length session - at) where
+    pub end-oversized : 32768 < size → at ≡ endFrom session at
+    unfolding endFrom wholeFirst part
+    end-oversized o = rw (behind-at, le-leb 4 (length session - at) h, ← e, lt-leb size 32768 o) refl
+
+    module _ (o : size ≤ 32768) where
+      pub end-cut : length session - at < 4 + size → at ≡ endFrom session at
+      unfolding endFrom wholeFirst part
+      end-cut c = rw (behind-at, le-leb 4 (length session - at) h, ← e, le-leb size 32768 o, lt-leb (4 + size) (length session - at) c) refl
+
+      pub end-whole : 4 + size ≤ length session - at → at + (4 + size) ≡ endFrom session at
+      unfolding endFrom wholeFirst part
+      end-whole c = rw (behind-at, le-leb 4 (length session - at) h, ← e, le-leb size 32768 o, le-leb (4 + size) (length session - at) c) refl
+
+-- a whole request stands there where it ends elsewhere
+module _ (session : List ℕ) (at end : ℕ) (e : end ≡ endFrom session at) (h : (end ≡ at → ⊥)) where
+  whole-at : (wholeFirst (drop at session) ≡ true) × (end ≡ at + (4 + sizeOf (drop at session)))
+  unfolding endFrom
+  whole-at = came-then (λ (n : ℕ). end ≡ n) (wholeFirst (drop at session)) h e
+
+  pub request-there : end ≤ length session → 4 ≤ length (take (end - at) (drop at session))
+  request-there k = rw (length-take-le (end - at) (drop at session) (rw length-drop (omega (arith, whole-at .1)))) (omega (arith, whole-at .1))
+
+-- ---- a line of the record
+
+-- what two writes leave
+pub line-written : (line first second : List ℕ) (call code : ℕ) → length line ≡ 8 → first ≡ splice line 0 (bytes 4 call) → second ≡ splice first 4 (bytes 4 code)
+    → second ≡ bytes 4 call ++ bytes 4 code
+unfolding splice
+line-written line first second call code h p q =
+    let l : length (bytes 4 call) ≡ 4 = length-bytes 4 call in
+    let e : first ≡ bytes 4 call ++ drop 4 line = rw (l, zero-add) at p in
+    let a : take 4 first ≡ bytes 4 call = ap (take 4) e ∙ take-at (bytes 4 call) (drop 4 line) 4 l in
+    let b : drop 8 first ≡ [] = drop-of-length-le first {i = 8} (rw (e, length-append (bytes 4 call) (drop 4 line), l, length-drop) (omega arith)) in
+    q ∙ rw (length-bytes 4 code, a, b, append-nil) refl
+
+-- it stands within the record
+pub line-lent : (lines : List ℕ) (count room : ℕ) → count < room → 8 * room ≤ length lines → length (take (8 * count + 8 - 8 * count) (drop (8 * count) lines)) ≡ 8
+line-lent lines count room h k =
+    let w : 8 * count + 8 - 8 * count ≡ 8 = omega arith in
+    rw w (length-take-le 8 (drop (8 * count) lines) (rw length-drop (omega arith)))
+
+-- ---- a request
+
+-- a return code is there to be read
+pub code-there : (s : State) (medium buffer : List ℕ) (h : Handled) (medium′ buffer′ : List ℕ) → outcome h medium′ buffer′ ≡ handled s medium buffer
+    → length buffer′ ≡ length buffer → h .call ≡ 0 → 24 ≤ length buffer′
+code-there s medium buffer h medium′ buffer′ e l z =
+    let long : 28 ≤ length buffer = handled-by s medium buffer (λ o. o .call ≡ 0 → 28 ≤ length buffer) (λ call p q. omega arith) (λ code p q k w. k) (λ r w. r .long) (sym (ap (λ (o : Outcome). o .call) e) ∙ z) in
+    omega arith
+
+-- what a request and its line leave
+pub request-left : (h : Handled) (o : Outcome) (code : ℕ) (medium buffer line : List ℕ) → outcome h medium buffer ≡ o → code ≡ codeOf (reply (h .call) buffer)
+    → line ≡ bytes 4 (h .call) ++ bytes 4 code → left (h .state) medium buffer line ≡ afterRequest o
+request-left h o code medium buffer line e p q = rw (q, p) (ap (λ (x : Outcome). afterRequest x) e)
+
+-- the same behind its length
+pub sized-left : (s s′ : State) (medium medium′ request buffer line : List ℕ)
+    → left s′ medium′ buffer line ≡ afterRequest (handled s medium (take (length request - 4) (drop 4 request)))
+    → left s′ medium′ (take 4 request ++ (buffer ++ drop (length request - 4) (drop 4 request))) line ≡ turned s medium request
+unfolding turned
+sized-left s s′ medium medium′ request buffer line p =
+    let q : drop (length request - 4) (drop 4 request) ≡ [] = drop-of-length-le (drop 4 request) {i = length request - 4} (rw length-drop (le-refl (length request - 4))) in
+    rw (q, append-nil) (ap (sized (take 4 request)) (rw rest at p))
+
+-- ---- a run that ends
+
+pub ran-none : (room : ℕ) (s : State) (medium session lines : List ℕ) → wholeFirst session ≡ false → ranFrom room s medium session lines ≡ ran 0 medium session lines
+unfolding ranFrom requestsOf run shown withReplies linesOf
+ran-none zero s medium session lines h = refl
+ran-none (suc room) s medium session lines h = rw h refl
+
+pub ran-full : (s : State) (medium session lines : List ℕ) → ranFrom 0 s medium session lines ≡ ran 0 medium session lines
+unfolding ranFrom requestsOf run shown withReplies linesOf
+ran-full s medium session lines = refl
+
+-- ---- a run that goes on
+
+-- a run's bytes behind those of the requests before it
+abbrev pub behind : ℕ → List ℕ → List ℕ → Ran → Ran
+behind count session lines r = ran (count + r .count) (r .medium) (session ++ r .session) (lines ++ r .lines)
+
+-- one request more before it
+behind-behind : (n : ℕ) (session session′ lines lines′ : List ℕ) (r : Ran)
+    → behind n session lines (behind 1 session′ lines′ r) ≡ behind (n + 1) (session ++ session′) (lines ++ lines′) r
+behind-behind n session session′ lines lines′ r =
+    rw (append-assoc session session′ (r .session), append-assoc lines lines′ (r .lines), add-assoc) refl
+
+-- a run whose first request leaves o
+shown-more : (o : Outcome) (end : End) (s : State) (medium request session lines : List ℕ) → o ≡ handled s medium request
+    → shown (preceded (entryOf s medium request) end) session lines
+    ≡ behind 1 (take 4 session ++ o .buffer) (lineOf (replyOf o)) (shown end (behindFirst session) (drop 8 lines))
+unfolding shown withReplies linesOf
+shown-more o end s medium request session lines e =
+    let n : ℕ = length (end .log) in
+    let c : suc n ≡ 1 + n = omega arith in
+    let w : 8 * suc n ≡ 8 + 8 * n = omega arith in
+    let d : drop (8 * suc n) lines ≡ drop (8 * n) (drop 8 lines) = rw (w, drop-drop) refl in
+    rw (e, d, c, append-assoc (take 4 session), append-assoc (lineOf (replyOf (handled s medium request)))) refl
+
+ran-more : (room : ℕ) (s : State) (medium session lines : List ℕ) → wholeFirst session ≡ true
+    → let o = handled s medium (firstOf session) in
+    ranFrom (suc room) s medium session lines
+    ≡ behind 1 (take 4 session ++ o .buffer) (lineOf (replyOf o)) (ranFrom room (o .state) (o .medium) (behindFirst session) (drop 8 lines))
+unfolding ranFrom requestsOf run
+ran-more room s medium session lines h = rw h (shown-more (handled s medium (firstOf session)) (run (handled s medium (firstOf session) .state) (handled s medium (firstOf session) .medium) (requestsOf room (behindFirst session))) s medium (firstOf session) session lines refl)
+
+-- ---- the loop
+
+-- a list in three pieces, cut behind the second
+module _ (done piece more : List ℕ) (n : ℕ) (e : length done + length piece ≡ n) where
+  cut : length (done ++ piece) ≡ n
+  cut = length-append done piece ∙ e
+
+  take-cut : take n (done ++ (piece ++ more)) ≡ done ++ piece
+  take-cut = ap (take n) (sym (append-assoc done piece more)) ∙ take-at (done ++ piece) more n cut
+
+  drop-cut : drop n (done ++ (piece ++ more)) ≡ more
+  drop-cut = ap (drop n) (sym (append-assoc done piece more)) ∙ drop-at (done ++ piece) more n cut
+
+length-line : (reply : Reply) → length (lineOf reply) ≡ 8
+length-line reply = length-append (bytes 4 (reply .call)) (bytes 4 (codeOf reply)) ∙ rw (length-bytes, length-bytes) refl
+
+-- the first request of a session, with its length
+turned-first : (s : State) (medium session : List ℕ)
+    → turned s medium (take (4 + sizeOf session) session) ≡ sized (take 4 session) (afterRequest (handled s medium (firstOf session)))
+unfolding turned part
+turned-first s medium session =
+    rw (take-take 4 (4 + sizeOf session) session (omega arith), drop-take 4 (4 + sizeOf session) session, add-sub-cancel-left) refl
+
+-- nothing is done at the start
+pub run-starts : (room : ℕ) (s : State) (medium session lines : List ℕ)
+    → ranFrom room s medium session lines ≡ behind 0 [] [] (ranFrom (room - 0) s medium session lines)
+run-starts room s medium session lines = rw (sub-zero, zero-add) refl
+
+module _ (r : Ran) (s : State) (medium session lines : List ℕ) (at count room : ℕ)
+    (g : r ≡ behind count (take at session) (take (8 * count) lines) (ranFrom (room - count) s medium (drop at session) (drop (8 * count) lines))) where
+  ended : ranFrom (room - count) s medium (drop at session) (drop (8 * count) lines) ≡ ran 0 medium (drop at session) (drop (8 * count) lines)
+      → ran count medium session lines ≡ r
+  ended e =
+      sym (g
+      ∙ ap (behind count (take at session) (take (8 * count) lines)) e
+      ∙ rw (take-append-drop at session, take-append-drop (8 * count) lines, add-zero) refl)
+
+  -- no room is left
+  pub run-full : count ≤ room → room ≤ count → ran count medium session lines ≡ r
+  run-full h k =
+      let z : room - count ≡ 0 = omega arith in
+      ended (rw z (ran-full s medium (drop at session) (drop (8 * count) lines)))
+
+  -- no whole request stands next
+  pub run-ends : (end : ℕ) → end ≡ endFrom session at → end ≡ at → ran count medium session lines ≡ r
+  unfolding endFrom
+  run-ends end e h =
+      ended (ran-none (room - count) s medium (drop at session) (drop (8 * count) lines)
+      (came-else (λ (n : ℕ). end ≡ n) (wholeFirst (drop at session)) (λ q. omega arith) e .0))
+
+  -- a request is handled
+  module _ (end : ℕ) (e : end ≡ endFrom session at) (h : (end ≡ at → ⊥)) (k : end ≤ length session) (room′ : 8 * room ≤ length lines) (c : count < room)
+      (s′ : State) (medium′ request line : List ℕ) (p : left s′ medium′ request line ≡ turned s medium (take (end - at) (drop at session)))
+      (l : length request ≡ length (take (end - at) (drop at session))) where
+    abbrev session′ : List ℕ
+    session′ = take at session ++ (request ++ drop (end - at) (drop at session))
+
+    abbrev lines′ : List ℕ
+    lines′ = take (8 * count) lines ++ (line ++ drop (8 * count + 8 - 8 * count) (drop (8 * count) lines))
+
+    pub run-goes-on : r ≡ behind (count + 1) (take end session′) (take (8 * (count + 1)) lines′) (ranFrom (room - (count + 1)) s′ medium′ (drop end session′) (drop (8 * (count + 1)) lines′))
+    run-goes-on =
+        let o : Outcome = handled s medium (firstOf (drop at session)) in
+        let x : end ≡ at + (4 + sizeOf (drop at session)) = whole-at session at end e h .1 in
+        let n : end - at ≡ 4 + sizeOf (drop at session) = omega arith in
+        let q : left s′ medium′ request line ≡ sized (take 4 (drop at session)) (afterRequest o) = rw n at p ∙ turned-first s medium (drop at session) in
+        let size : length request ≡ end - at = l ∙ length-take-le (end - at) (drop at session) (rw length-drop (omega arith)) in
+        let eight : length line ≡ 8 = ap (λ (x : Left). length (x .line)) q ∙ length-line (replyOf o) in
+        let front : length (take at session) ≡ at = length-take-le at session (omega arith) in
+        let before : length (take (8 * count) lines) ≡ 8 * count = length-take-le (8 * count) lines (omega arith) in
+        let a : length (take at session) + length request ≡ end = rw (front, size) (omega arith) in
+        let b : length (take (8 * count) lines) + length line ≡ 8 * (count + 1) = rw (before, eight) (omega arith) in
+        let m : room - count ≡ suc (room - (count + 1)) = omega arith in
+        let w : 8 * count + 8 - 8 * count ≡ 8 = omega arith in
+        rw (
+          take-cut (take at session) request (drop (end - at) (drop at session)) end a,
+          drop-cut (take at session) request (drop (end - at) (drop at session)) end a,
+          take-cut (take (8 * count) lines) line (drop (8 * count + 8 - 8 * count) (drop (8 * count) lines)) (8 * (count + 1)) b,
+          drop-cut (take (8 * count) lines) line (drop (8 * count + 8 - 8 * count) (drop (8 * count) lines)) (8 * (count + 1)) b,
+          n,
+          w,
+        )
+        (g
+        ∙ ap (behind count (take at session) (take (8 * count) lines)) (rw m (ran-more (room - (count + 1)) s medium (drop at session) (drop (8 * count) lines) (whole-at session at end e h .0)))
+        ∙ behind-behind count (take at session) (take 4 (drop at session) ++ o .buffer) (take (8 * count) lines) (lineOf (replyOf o))
+        (ranFrom (room - (count + 1)) (o .state) (o .medium) (behindFirst (drop at session)) (drop 8 (drop (8 * count) lines)))
+        ∙ sym (ap (λ (x : Left). behind (count + 1) (take at session ++ x .bytes) (take (8 * count) lines ++ x .line)
+        (ranFrom (room - (count + 1)) (x .state) (x .medium) (behindFirst (drop at session)) (drop 8 (drop (8 * count) lines)))) q))

@@ -1,0 +1,107 @@
+-- A session and its run, as bytes (document 01, "Starred cases", its last paragraphs, and "Two runs and the last writer"): the requests in
+-- the program's format, the replies in their places, and a record of call numbers and return codes. Assumes nothing.
+use mathlib.Core.Bool.{Bool, cond, _&&_}
+use mathlib.Core.List.{List, [], _∷_, _++_}
+use Prim.Native.Nat.{ℕ, zero, suc, _+_, _*_, _/_}
+use lib.Dec.{eqb, leb}
+use lib.ListN.{length, take, drop}
+use Rattle.laws.specs.Splice.{part}
+use Rattle.wire.specs.Number.{number, bytes}
+use Rattle.state.specs.declared.State.{State}
+use Rattle.state.specs.Open.{openedOf}
+use Rattle.dispatch.specs.Request.{Outcome, handled}
+use Rattle.claims.specs.Run.{Reply, Entry, End, replyOf, run}
+
+-- ---- the requests of a session
+
+-- "a 4-byte length"
+abbrev pub sizeOf : List ℕ → ℕ
+sizeOf session = number (part session 0 4)
+
+-- "up to 32,768 .. then its bytes; a short or oversized last one .. ends it"
+unfoldable pub wholeFirst : List ℕ → Bool
+wholeFirst session = leb 4 (length session) && leb (sizeOf session) 32768 && leb (4 + sizeOf session) (length session)
+
+-- the bytes of the first request, and what stands behind them
+abbrev pub firstOf : List ℕ → List ℕ
+firstOf session = part session 4 (sizeOf session)
+
+abbrev pub behindFirst : List ℕ → List ℕ
+behindFirst session = drop (4 + sizeOf session) session
+
+-- the requests of a session, at most so many
+unfoldable pub requestsOf : ℕ → List ℕ → List (List ℕ)
+requestsOf zero session = []
+requestsOf (suc room) session = cond (wholeFirst session) (firstOf session ∷ requestsOf room (behindFirst session)) []
+
+-- ---- what a run leaves, as bytes
+
+-- the replies in the requests' places
+unfoldable pub withReplies : List Entry → List ℕ → List ℕ
+withReplies [] session = session
+withReplies (e ∷ log) session = take 4 session ++ (e .exchange .reply .buffer ++ withReplies log (behindFirst session))
+
+-- "the return code is bytes 20–23"; where the call gives a number none is written, and FFFFFFFFh stands for it
+unfoldable pub codeOf : Reply → ℕ
+codeOf reply = cond (eqb (reply .call) 0) (number (part (reply .buffer) 20 4)) 4294967295
+
+abbrev pub reply : ℕ → List ℕ → Reply
+reply call buffer = record { call = call; buffer = buffer }
+
+-- a request's call number and return code
+abbrev pub lineOf : Reply → List ℕ
+lineOf reply = bytes 4 (reply .call) ++ bytes 4 (codeOf reply)
+
+unfoldable pub linesOf : List Entry → List ℕ
+linesOf [] = []
+linesOf (e ∷ log) = lineOf (e .exchange .reply) ++ linesOf log
+
+-- the number of requests handled, and the bytes of the medium, the session and the record afterwards
+pub record Ran : Type 0 where
+  pub count : ℕ
+  pub medium : List ℕ
+  pub session : List ℕ
+  pub lines : List ℕ
+
+abbrev pub ran : ℕ → List ℕ → List ℕ → List ℕ → Ran
+ran count medium session lines = record { count = count; medium = medium; session = session; lines = lines }
+
+-- a run's end, in a session and a record; what the record has past the requests stays
+unfoldable pub shown : End → List ℕ → List ℕ → Ran
+shown end session lines =
+    ran (length (end .log)) (end .medium) (withReplies (end .log) session) (linesOf (end .log) ++ drop (8 * length (end .log)) lines)
+
+-- the run of `claims` from a state, with as many requests as there is room for
+unfoldable pub ranFrom : ℕ → State → List ℕ → List ℕ → List ℕ → Ran
+ranFrom room s medium session lines = shown (run s medium (requestsOf room session)) session lines
+
+-- the whole run of a session: an opening, then its requests. A line of the record is 8 bytes
+unfoldable pub sessionRun : List ℕ → List ℕ → List ℕ → List ℕ → List ℕ → Ran
+sessionRun text file medium session lines = ranFrom (length lines / 8) (openedOf text file medium .state) medium session lines
+
+-- ---- one request of a session
+
+-- where the request ends that begins at an index; that index itself where no whole request does
+unfoldable pub endFrom : List ℕ → ℕ → ℕ
+endFrom session at = cond (wholeFirst (drop at session)) (at + (4 + sizeOf (drop at session))) at
+
+-- what one request leaves: the state, the medium, the bytes that it stands in, and its line of the record
+pub record Left : Type 0 where
+  pub state : State
+  pub medium : List ℕ
+  pub bytes : List ℕ
+  pub line : List ℕ
+
+abbrev pub left : State → List ℕ → List ℕ → List ℕ → Left
+left s medium bytes line = record { state = s; medium = medium; bytes = bytes; line = line }
+
+-- in a buffer of its own
+abbrev pub afterRequest : Outcome → Left
+afterRequest o = left (o .state) (o .medium) (o .buffer) (lineOf (replyOf o))
+
+-- behind its length
+abbrev pub sized : List ℕ → Left → Left
+sized length l = left (l .state) (l .medium) (length ++ l .bytes) (l .line)
+
+unfoldable pub turned : State → List ℕ → List ℕ → Left
+turned s medium request = sized (take 4 request) (afterRequest (handled s medium (drop 4 request)))
