@@ -6,15 +6,16 @@ use lib.Dec.{eqb, leb, ltb}
 use lib.ListN.{getD}
 use Rattle.codes.specs.Codes.{phyInfoChanged, phyInfoNotChangeable, linkRateOutOfRange, phyDoesNotExist, invalidParameter}
 use Rattle.phy.specs.declared.Phy.{Phy}
+use Rattle.phy.specs.declared.PhyIdentifier.{PhyIdentifier}
 use Rattle.phy.specs.Entity.{programmedMinimum, programmedMaximum}
 use Rattle.phy.specs.Change.{configured}
 use Rattle.fields.specs.Rules.{isRate, rangeHolds}
 use Rattle.link.specs.Rule.{reset, disabled}
 use Rattle.adapter.specs.declared.Adapter.{Adapter}
-use Rattle.adapter.specs.Adapter.{phyIn, withPhy}
+use Rattle.adapter.specs.Adapter.{phyIn}
+use Rattle.changes.specs.declared.Change.{Change}
 use Rattle.changes.specs.declared.PhySetting.{PhySetting}
-use Rattle.changes.specs.declared.Served.{Served}
-use Rattle.changes.specs.Changed.{gives}
+use Rattle.changes.specs.Changed.{keeps, stores, Served, servedBy}
 
 -- what the body asks: "negotiated byte", "class", and "each programmed byte"
 unfoldable pub asked : List ℕ → PhySetting
@@ -45,19 +46,23 @@ unfoldable pub setTo : Phy → PhySetting → ℕ → ℕ → Phy
 setTo phy s minimum maximum = linked (s .negotiated) (configured phy (s .class) minimum maximum)
 
 -- "not fixed; negotiated byte ..; each programmed byte ..", of a phy that exists, with the two resulting rates
-unfoldable pub setChecked : Adapter → ℕ → Phy → PhySetting → ℕ → ℕ → Served
-setChecked ad n phy s minimum maximum =
-    cond (eqb (phy .fixed) 1) (gives phyInfoNotChangeable ad)
+unfoldable pub setChecked : PhyIdentifier → Phy → PhySetting → ℕ → ℕ → Change
+setChecked n phy s minimum maximum =
+    cond (eqb (phy .fixed) 1) (keeps phyInfoNotChangeable)
     (cond (parametersHold s)
-    (cond (ratesHold phy s minimum maximum) (gives phyInfoChanged (withPhy ad n (setTo phy s minimum maximum))) (gives linkRateOutOfRange ad))
-    (gives invalidParameter ad))
+    (cond (ratesHold phy s minimum maximum) (stores phyInfoChanged n (setTo phy s minimum maximum)) (keeps linkRateOutOfRange))
+    (keeps invalidParameter))
 
 -- the same with the rates that the request leaves
-unfoldable pub setPhy : Adapter → ℕ → Phy → PhySetting → Served
-setPhy ad n phy s =
-    setChecked ad n phy s (resulting (s .minimum) (programmedMinimum phy)) (resulting (s .maximum) (programmedMaximum phy))
+unfoldable pub setPhy : PhyIdentifier → Phy → PhySetting → Change
+setPhy n phy s =
+    setChecked n phy s (resulting (s .minimum) (programmedMinimum phy)) (resulting (s .maximum) (programmedMaximum phy))
 
 -- "21: phy exists", and what follows. The body stays
+unfoldable pub phySet : Adapter → List ℕ → Change
+phySet ad body =
+    cond (ltb (getD body 0 0) (ad .«phy_count»)) (setPhy (record { 0 = getD body 0 0 }) (phyIn ad (getD body 0 0)) (asked body))
+    (keeps phyDoesNotExist)
+
 unfoldable pub setPhyInfo : Adapter → List ℕ → Served
-setPhyInfo ad body =
-    cond (ltb (getD body 0 0) (ad .«phy_count»)) (setPhy ad (getD body 0 0) (phyIn ad (getD body 0 0)) (asked body)) (gives phyDoesNotExist ad)
+setPhyInfo ad body = servedBy ad (phySet ad body)

@@ -1,6 +1,7 @@
 // Code 21, set phy info.
+use crate::Change;
 use crate::PhySetting;
-use crate::Served;
+use crate::unchanged;
 use adapter::Adapter;
 use phy::Phy;
 use phy::PhyIdentifier;
@@ -8,9 +9,9 @@ ghost use mathlib.Core.Path.{_≡_};
 ghost use Prim.Native.Nat.{_<_, _≤_};
 ghost use lib.ListN.{length};
 ghost use Rattle.codes.specs.Codes.{phyInfoChanged};
-ghost use Rattle.adapter.specs.Adapter.{phyIn, withPhy};
+ghost use Rattle.adapter.specs.Adapter.{phyIn};
 ghost use Rattle.changes.specs.SetPhyInfo.{asked, programmable, resulting, parametersHold, ratesHold, linked, setTo, setChecked, setPhy, setPhyInfo};
-ghost use Rattle.changes.specs.Changed.{gives};
+ghost use Rattle.changes.specs.Changed.{stores, servedBy};
 
 // The setting in a body.
 fn parse(body: &[u8]) -> PhySetting
@@ -66,100 +67,60 @@ fn link(negotiated: u8, phy: Phy) -> Phy
     link::reset(phy)
 }
 
-fn store(
-    adapter: Adapter,
-    n: PhyIdentifier,
-    phy: Phy,
-    s: PhySetting,
-    minimum: u8,
-    maximum: u8,
-) -> Adapter
-    requires { ⌜ n .0 < 32 ⌝ }
+fn change(n: PhyIdentifier, phy: Phy, s: PhySetting, minimum: u8, maximum: u8) -> Change
     requires { ⌜ (minimum < 16) × (maximum < 16) ⌝ }
-    ensures { λ r. ⌜ r ≡ withPhy adapter (n .0) (setTo phy s minimum maximum) ⌝ }
+    ensures { λ r. ⌜ r ≡ stores phyInfoChanged n (setTo phy s minimum maximum) ⌝ }
 {
     let configured = phy.configured(s.class, minimum, maximum);
-    adapter.with_phy(n, link(s.negotiated, configured))
-}
-
-fn change(
-    adapter: Adapter,
-    n: PhyIdentifier,
-    phy: Phy,
-    s: PhySetting,
-    minimum: u8,
-    maximum: u8,
-) -> Served
-    requires { ⌜ n .0 < 32 ⌝ }
-    requires { ⌜ (minimum < 16) × (maximum < 16) ⌝ }
-    ensures { λ r. ⌜ r ≡ gives phyInfoChanged (withPhy adapter (n .0) (setTo phy s minimum maximum)) ⌝ }
-{
-    Served {
+    Change {
         code: codes::PHY_INFO_CHANGED,
-        adapter: store(adapter, n, phy, s, minimum, maximum),
+        stored: true,
+        number: n,
+        phy: link(s.negotiated, configured),
     }
 }
 
-fn set_checked(
-    adapter: Adapter,
-    n: PhyIdentifier,
-    phy: Phy,
-    s: PhySetting,
-    minimum: u8,
-    maximum: u8,
-) -> Served
-    requires { ⌜ n .0 < 32 ⌝ }
-    ensures { λ r. ⌜ r ≡ setChecked adapter (n .0) phy s minimum maximum ⌝ }
+fn set_checked(n: PhyIdentifier, phy: Phy, s: PhySetting, minimum: u8, maximum: u8) -> Change
+    ensures { λ r. ⌜ r ≡ setChecked n phy s minimum maximum ⌝ }
 {
     if phy.fixed == 1 {
-        return Served {
-            code: codes::PHY_INFO_NOT_CHANGEABLE,
-            adapter,
-        };
+        return unchanged(codes::PHY_INFO_NOT_CHANGEABLE);
     }
     if parameters_hold(s) {
         if rates_hold(phy, s, minimum, maximum) {
-            return change(adapter, n, phy, s, minimum, maximum);
+            return change(n, phy, s, minimum, maximum);
         }
-        return Served {
-            code: codes::LINK_RATE_OUT_OF_RANGE,
-            adapter,
-        };
+        return unchanged(codes::LINK_RATE_OUT_OF_RANGE);
     }
-    Served {
-        code: codes::INVALID_PARAMETER,
-        adapter,
-    }
+    unchanged(codes::INVALID_PARAMETER)
 }
 
-fn set_phy(adapter: Adapter, n: PhyIdentifier, phy: Phy, s: PhySetting) -> Served
-    requires { ⌜ n .0 < 32 ⌝ }
-    ensures { λ r. ⌜ r ≡ setPhy adapter (n .0) phy s ⌝ }
+fn set_phy(n: PhyIdentifier, phy: Phy, s: PhySetting) -> Change
+    ensures { λ r. ⌜ r ≡ setPhy n phy s ⌝ }
 {
     let minimum = result(s.minimum, phy.programmed_minimum());
     let maximum = result(s.maximum, phy.programmed_maximum());
-    set_checked(adapter, n, phy, s, minimum, maximum)
+    set_checked(n, phy, s, minimum, maximum)
 }
 
-fn set_existing(adapter: Adapter, n: PhyIdentifier, body: &[u8]) -> Served
+fn set_existing(adapter: Adapter, n: PhyIdentifier, body: &[u8]) -> Change
     requires { ⌜ n .0 < 32 ⌝ }
     requires { ⌜ 8 ≤ length (now body) ⌝ }
-    ensures { λ r. ⌜ r ≡ setPhy adapter (n .0) (phyIn adapter (n .0)) (asked (now (body .entry))) ⌝ }
+    ensures { λ r. ⌜ r ≡ setPhy n (phyIn adapter (n .0)) (asked (now (body .entry))) ⌝ }
+    ensures { λ r. ⌜ r .number .0 < 32 ⌝ }
 {
-    set_phy(adapter, n, adapter.phy(n), parse(body))
+    set_phy(n, adapter.phy(n), parse(body))
 }
 
 // Sets a phy's signal class and programmed rates, and disables it or resets its link.
-pub fn set_info(adapter: Adapter, body: &[u8]) -> Served
+pub fn set_info(adapter: Adapter, body: &[u8]) -> Change
     requires { ⌜ adapter .«phy_count» ≤ 32 ⌝ }
     requires { ⌜ 8 ≤ length (now body) ⌝ }
-    ensures { λ r. ⌜ r ≡ setPhyInfo adapter (now (body .entry)) ⌝ }
+    ensures { λ r. ⌜ servedBy adapter r ≡ setPhyInfo adapter (now (body .entry)) ⌝ }
+    ensures { λ r. ⌜ r .number .0 < 32 ⌝ }
 {
     if body[0] < adapter.phy_count {
         return set_existing(adapter, PhyIdentifier(body[0]), body);
     }
-    Served {
-        code: codes::PHY_DOES_NOT_EXIST,
-        adapter,
-    }
+    unchanged(codes::PHY_DOES_NOT_EXIST)
 }

@@ -35,8 +35,8 @@ use Rattle.state.specs.Accepted.{Open, open-accepted, open-holds}
 use Rattle.header.specs.Table.{structureSize}
 use Rattle.header.specs.Laws.{access-room}
 use Rattle.header.specs.Header.{controlCode, bodyOf, accessCode}
-use Rattle.dispatch.specs.Serve.{unchanged, changed, reportOf, served}
-use Rattle.dispatch.specs.Request.{Outcome, callNumber, inBuffer, answered, replied, answeredAt, handled}
+use Rattle.dispatch.specs.Serve.{reported, changed, reportOf, served}
+use Rattle.dispatch.specs.Request.{Outcome, stateNumber, bufferNumber, callNumber, inBuffer, answered, replied, answeredAt, handled}
 use Rattle.claims.specs.Run.{replyOf}
 use Rattle.claims.specs.LastWriter.{granted}
 use Rattle.claims.specs.Ways.{granted-code, in-buffer}
@@ -57,11 +57,11 @@ pub record AcceptedRows (s : State) (medium : List ℕ) : Type 0 where
 
 -- what it is answered with, of a code that only reports
 reportedBy : State → List ℕ → List ℕ → Report → Outcome
-reportedBy s medium request r = replied (s .level) (inBuffer request (changed medium (unchanged (s .adapter) r)))
+reportedBy s medium request r = replied (s .level) (inBuffer request (changed medium (reported (s .adapter) r)))
 
 handled-sound : (s : State) (medium request : List ℕ) (code : ℕ) → stateHolds s ≡ true → mediumSize (s .adapter) ≡ length medium → Sound s request code
     → handled s medium request ≡ replied (s .level) (inBuffer request (served (s .adapter) medium code (bodyOf request)))
-unfolding handled callNumber answeredAt answered
+unfolding handled callNumber bufferNumber stateNumber answeredAt answered
 handled-sound s medium request code h d o =
     rw (h, eq-eqb (mediumSize (s .adapter)) (length medium) d, le-ltb (length request) 28 (o .long), o .passes, o .coded) refl
 

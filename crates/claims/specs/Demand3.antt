@@ -34,7 +34,7 @@ use Rattle.state.specs.declared.Opened.{Opened}
 use Rattle.state.specs.State.{adapterHolds, stateHolds, zeroState}
 use Rattle.state.specs.Open.{refused, judged, openedFile, openedText, openedOf}
 use Rattle.state.specs.Accepted.{Open, open-accepted}
-use Rattle.dispatch.specs.Request.{callNumber, untouched, handled}
+use Rattle.dispatch.specs.Request.{stateNumber, bufferNumber, callNumber, untouched, handled}
 use Rattle.claims.specs.Run.{run, wholeRun, exchanges, given, sentOf}
 use Rattle.claims.specs.LastWriter.{sectorBy, rateBy}
 use Rattle.claims.specs.Claim.{LastWriterHalf, lowerRun, Claim}
@@ -75,7 +75,7 @@ module _ (place : ℕ) (rate : Phy → ℕ)
 
 -- ---- where the opening accepts
 
-opened-from : (text file medium : List ℕ) → openedOf text file medium .call ≡ 0 → FromFile file (openedOf text file medium .state) medium
+pub opened-from : (text file medium : List ℕ) → openedOf text file medium .call ≡ 0 → FromFile file (openedOf text file medium .state) medium
 unfolding adapterOf phyAt
 opened-from text file medium h =
     let o : Open text file medium = open-accepted text file medium h in
@@ -97,7 +97,7 @@ opened-from text file medium h =
 
 -- ---- where it refuses
 
-opened-zero : (text file medium : List ℕ) → (openedOf text file medium .call ≡ 0 → ⊥) → openedOf text file medium .state ≡ zeroState
+pub opened-zero : (text file medium : List ℕ) → (openedOf text file medium .call ≡ 0 → ⊥) → openedOf text file medium .state ≡ zeroState
 unfolding openedOf openedText openedFile judged
 opened-zero text file medium =
     either Zero (eqb (textLevel text .call) 0)
@@ -116,7 +116,7 @@ opened-zero text file medium =
 
 -- 107 refuses the zero state, so it goes on as it is
 zero-step : (medium request : List ℕ) → handled zeroState medium request ≡ untouched badState zeroState medium request
-unfolding handled callNumber stateHolds adapterHolds countsHold zeroState zeroAdapter
+unfolding handled callNumber bufferNumber stateNumber stateHolds adapterHolds countsHold zeroState zeroAdapter
 zero-step medium request = refl
 
 zero-run : (medium : List ℕ) (requests : List (List ℕ)) → (run zeroState medium requests .state ≡ zeroState) × (run zeroState medium requests .medium ≡ medium)

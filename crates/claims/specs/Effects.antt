@@ -32,7 +32,7 @@ use Rattle.passthrough.specs.Passthrough.{phyAsked, portAsked, diskOf, passthro
 use Rattle.state.specs.declared.State.{State}
 use Rattle.header.specs.Table.{structureSize, dataSize}
 use Rattle.header.specs.Header.{controlCode, bodyOf}
-use Rattle.dispatch.specs.Serve.{Served, changed, passed, unchanged, reportOf, served}
+use Rattle.dispatch.specs.Serve.{Served, changed, passed, reported, reportOf, served}
 use Rattle.dispatch.specs.Laws.{passthrough-lent}
 use Rattle.dispatch.specs.Request.{Outcome, untouched, inBuffer, refused, replied, handled}
 use Rattle.claims.specs.Run.{Reply, Exchange, replyOf}

@@ -7,6 +7,7 @@ pub mod Phys
 pub mod Disks
 pub mod Ways
 pub mod Effects
+pub mod Held
 pub mod Demand3
 pub mod Conversions
 pub mod Starred

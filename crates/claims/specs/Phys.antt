@@ -21,10 +21,10 @@ use Rattle.link.specs.Kept.{kept-reset, settings-reset, kept-disabled, settings
 use Rattle.adapter.specs.declared.Adapter.{Adapter}
 use Rattle.adapter.specs.Adapter.{phyIn, withPhy}
 use Rattle.adapter.specs.Store.{phy-stored, phy-other, counts-stored}
-use Rattle.changes.specs.declared.Served.{Served}
 use Rattle.changes.specs.declared.PhySetting.{PhySetting}
-use Rattle.changes.specs.Changed.{Changed, leaves, gives}
-use Rattle.changes.specs.SetPhyInfo.{asked, resulting, parametersHold, ratesHold, linked, setTo, setChecked, setPhy, setPhyInfo}
+use Rattle.changes.specs.declared.Change.{Change}
+use Rattle.changes.specs.Changed.{keeps, stores, applied, Served, gives, servedBy, Changed, leaves, left}
+use Rattle.changes.specs.SetPhyInfo.{asked, resulting, parametersHold, ratesHold, linked, setTo, setChecked, setPhy, phySet, setPhyInfo}
 use Rattle.changes.specs.LinkErrors.{afterReset, linkErrors, reported}
 
 -- ---- a phy that code 21 sets
@@ -93,29 +93,37 @@ setNow phy body =
     setTo phy (asked body) (resulting (getD body 2 0) (programmedMinimum phy)) (resulting (getD body 3 0) (programmedMaximum phy))
 
 pub set-by : (ad : Adapter) (body : List ℕ) (P : Served → Type 0) → ((code : ℕ) → 0 < code → code ≤ 2014 → P (gives code ad))
-    → (named body < ad .«phy_count» → P (gives success (withPhy ad (named body) (setNow (phyIn ad (named body)) body)))) → P (setPhyInfo ad body)
-unfolding setPhyInfo setPhy setChecked asked setNow
+    → (let phy = phyIn ad (named body) in
+    named body < ad .«phy_count» → parametersHold (asked body) ≡ true
+    → ratesHold phy (asked body) (resulting (getD body 2 0) (programmedMinimum phy)) (resulting (getD body 3 0) (programmedMaximum phy)) ≡ true
+    → P (gives success (withPhy ad (named body) (setNow phy body)))) → P (setPhyInfo ad body)
+unfolding setPhyInfo phySet setPhy setChecked asked setNow keeps stores applied
 set-by ad body P refused done =
     let phy : Phy = phyIn ad (named body) in
-    either-by P (ltb (named body) (ad .«phy_count»))
-    (λ h. either P (eqb (phy .fixed) 1) (refused 2000 (omega arith) (omega arith))
-    (either P (parametersHold (asked body))
-    (either P (ratesHold phy (asked body) (resulting (getD body 2 0) (programmedMinimum phy)) (resulting (getD body 3 0) (programmedMaximum phy)))
-    (done (ltb-true (named body) (ad .«phy_count») h)) (refused 2001 (omega arith) (omega arith)))
-    (refused 3 (omega arith) (omega arith))))
+    let Q : (Change → Type 0) = λ c. P (servedBy ad c) in
+    either-by Q (ltb (named body) (ad .«phy_count»))
+    (λ h. either Q (eqb (phy .fixed) 1) (refused 2000 (omega arith) (omega arith))
+    (either-by Q (parametersHold (asked body))
+    (λ k. either-by Q (ratesHold phy (asked body) (resulting (getD body 2 0) (programmedMinimum phy)) (resulting (getD body 3 0) (programmedMaximum phy)))
+    (λ r. done (ltb-true (named body) (ad .«phy_count») h) k r) (λ _. refused 2001 (omega arith) (omega arith)))
+    (λ _. refused 3 (omega arith) (omega arith))))
     (λ _. refused 2002 (omega arith) (omega arith))
 
 pub errors-by : (ad : Adapter) (body : List ℕ) (P : Changed → Type 0) → ((code : ℕ) → 0 < code → code ≤ 2014 → P (leaves code ad body))
     → (named body < ad .«phy_count»
-    → P (leaves success (afterReset ad (named body) (getD body 1 0)) (reported body (phyIn ad (named body) .counters)))) → P (linkErrors ad body)
-unfolding linkErrors
-errors-by ad body P refused done =
+    → P (leaves success (withPhy ad (named body) (cleared (phyIn ad (named body)))) (reported body (phyIn ad (named body) .counters))))
+    → P (leaves success ad (reported body (phyIn ad (named body) .counters))) → P (linkErrors ad body)
+unfolding linkErrors afterReset keeps stores applied
+errors-by ad body P refused cleared kept =
     either P (leb (getD body 1 0) 1)
-    (either-by P (ltb (named body) (ad .«phy_count»)) (λ h. done (ltb-true (named body) (ad .«phy_count») h)) (λ _. refused 2002 (omega arith) (omega arith)))
+    (either-by P (ltb (named body) (ad .«phy_count»))
+    (λ h. either (λ (c : Change). P (left (servedBy ad c) (reported body (phyIn ad (named body) .counters)))) (eqb (getD body 1 0) 1)
+    (cleared (ltb-true (named body) (ad .«phy_count») h)) kept)
+    (λ _. refused 2002 (omega arith) (omega arith)))
     (refused 3 (omega arith) (omega arith))
 
 pub set-code : (ad : Adapter) (body : List ℕ) → setPhyInfo ad body .code ≤ 2014
-set-code ad body = set-by ad body (λ (s : Served). s .code ≤ 2014) (λ _ _ k. k) (λ _. omega arith)
+set-code ad body = set-by ad body (λ (s : Served). s .code ≤ 2014) (λ _ _ k. k) (λ _ _ _. omega arith)
 
 -- ---- what they keep
 
@@ -124,24 +132,20 @@ module _ (ad : Adapter) (body : List ℕ) (e : length (ad .phys) ≡ 32) (p : ad
   unfolding setNow
   set-moved =
       set-by ad body (λ (s : Served). Moved ad (s .adapter)) (λ _ _ _. moved-refl ad)
-      (λ h. moved-stored ad (named body) (setNow (phyIn ad (named body)) body) (omega arith) (λ k. set-kept (phyIn ad (named body)) (asked body) _ _ k))
+      (λ h _ _. moved-stored ad (named body) (setNow (phyIn ad (named body)) body) (omega arith) (λ k. set-kept (phyIn ad (named body)) (asked body) _ _ k))
 
   pub errors-moved : Moved ad (linkErrors ad body .adapter)
-  unfolding afterReset
   errors-moved =
       errors-by ad body (λ (c : Changed). Moved ad (c .adapter)) (λ _ _ _. moved-refl ad)
-      (λ h. either (λ (x : Adapter). Moved ad x) (eqb (getD body 1 0) 1)
-      (moved-stored ad (named body) (cleared (phyIn ad (named body))) (omega arith) (λ _. kept-cleared (phyIn ad (named body)))) (moved-refl ad))
+      (λ h. moved-stored ad (named body) (cleared (phyIn ad (named body))) (omega arith) (λ _. kept-cleared (phyIn ad (named body)))) (moved-refl ad)
 
   -- code 22 sets no rate
   pub errors-settings : (n : ℕ) → Settings (phyIn ad n) (phyIn (linkErrors ad body .adapter) n)
-  unfolding afterReset
   errors-settings n =
       errors-by ad body (λ (c : Changed). Settings (phyIn ad n) (phyIn (c .adapter) n)) (λ _ _ _. settings-refl (phyIn ad n))
-      (λ h. either (λ (x : Adapter). Settings (phyIn ad n) (phyIn x n)) (eqb (getD body 1 0) 1)
-      (stored-by (λ (m : ℕ) (x : Phy). Settings (phyIn ad m) x) ad (named body) (cleared (phyIn ad (named body))) (omega arith)
+      (λ h. stored-by (λ (m : ℕ) (x : Phy). Settings (phyIn ad m) x) ad (named body) (cleared (phyIn ad (named body))) (omega arith)
       (settings-cleared (phyIn ad (named body))) (λ m _. settings-refl (phyIn ad m)) n)
-      (settings-refl (phyIn ad n)))
+      (settings-refl (phyIn ad n))
 
 -- ---- the programmed rates that code 21 sets
 
@@ -169,6 +173,6 @@ module _ (place : ℕ) (rate : Phy → ℕ) (sets : (phy : Phy) (body : List ℕ
   set-rate ad body n e p l =
       set-by ad body (λ (s : Served). rate (phyIn (s .adapter) n) ≡ rateSet (s .code) body n (rate (phyIn ad n)))
       (λ code k _. rw (ne-eqb code 0 (λ z. omega arith)))
-      (λ h. stored-by (λ (m : ℕ) (x : Phy). rate x ≡ rateSet success body m (rate (phyIn ad m))) ad (named body) (setNow (phyIn ad (named body)) body) (omega arith)
+      (λ h _ _. stored-by (λ (m : ℕ) (x : Phy). rate x ≡ rateSet success body m (rate (phyIn ad m))) ad (named body) (setNow (phyIn ad (named body)) body) (omega arith)
       (rw (eq-eqb (named body) (named body) refl) (sets (phyIn ad (named body)) body (l (named body) h) ∙ resulting-set (getD body place 0) (rate (phyIn ad (named body)))))
       (λ m d. rw (ne-eqb (named body) m (λ q. d (sym q)))) n)

@@ -18,7 +18,7 @@ use Rattle.state.specs.declared.State.{State}
 use Rattle.state.specs.State.{stateHolds}
 use Rattle.header.specs.Table.{need}
 use Rattle.header.specs.Header.{controlCode, bodyOf, headerCode, above, accessCode}
-use Rattle.dispatch.specs.Request.{Outcome, callNumber, untouched, answered, replied, answeredAt, handled}
+use Rattle.dispatch.specs.Request.{Outcome, stateNumber, bufferNumber, callNumber, untouched, answered, replied, answeredAt, handled}
 use Rattle.claims.specs.Run.{denied}
 
 -- ---- denied
@@ -85,7 +85,7 @@ module _ (ad : Adapter) (medium request : List ℕ) (l m : Level) (h : l .0 ≤ 
   served-same a = rw (access-same a) (record { call = refl; adapter = refl; medium = refl; buffer = refl })
 
   number-same : m .0 ≤ 3 → (n k : ℕ) → callNumber low n k ≡ callNumber high n k
-  unfolding callNumber stateHolds
+  unfolding callNumber bufferNumber stateNumber stateHolds
   number-same b n k = rw (le-leb (l .0) 3 (omega arith), le-leb (m .0) 3 b) refl
 
   pub same-step : m .0 ≤ 3 → denied low medium request ≡ false → Same (handled low medium request) (handled high medium request)

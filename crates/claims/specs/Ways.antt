@@ -21,11 +21,12 @@ use Rattle.changes.specs.SetPhyInfo.{setPhyInfo as setInfo}
 use Rattle.changes.specs.LinkErrors.{linkErrors}
 use Rattle.passthrough.specs.Passthrough.{passthrough}
 use Rattle.state.specs.declared.State.{State}
+use Rattle.state.specs.State.{stateHolds}
 use Rattle.header.specs.Table.{structureSize, dataSize}
 use Rattle.header.specs.Header.{headerLength, controlCode, lengthField, bodyOf, signatureHolds, lengthHolds, codeChecked, headerCode, above, accessCode}
 use Rattle.header.specs.Laws.{access-room}
-use Rattle.dispatch.specs.Serve.{Served, unchanged, changed, passed, reportOf, served}
-use Rattle.dispatch.specs.Laws.{heard-medium, heard-buffer}
+use Rattle.dispatch.specs.Serve.{Served, reported, changed, passed, reportOf, served}
+use Rattle.dispatch.specs.Laws.{heard-state, heard-medium, heard-buffer}
 use Rattle.dispatch.specs.Request.{Outcome, callNumber, untouched, inBuffer, refused, answered, replied, answeredAt, handled}
 use Rattle.claims.specs.Run.{Reply}
 use Rattle.claims.specs.LastWriter.{granted}
@@ -36,7 +37,7 @@ pub served-by : (ad : Adapter) (medium : List ℕ) (code : ℕ) (body : List ℕ
     → (code ≡ setPhyInfo → P (changed medium (changedBy (setInfo ad body) body)))
     → (code ≡ getLinkErrors → P (changed medium (linkErrors ad body)))
     → (code ≡ stpPassthru → P (passed ad (passthrough ad medium body)))
-    → ((code ≡ setPhyInfo → ⊥) → (code ≡ stpPassthru → ⊥) → P (changed medium (unchanged ad (reportOf ad code body))))
+    → ((code ≡ setPhyInfo → ⊥) → (code ≡ stpPassthru → ⊥) → P (changed medium (reported ad (reportOf ad code body))))
     → P (served ad medium code body)
 unfolding served
 served-by ad medium code body P set errors pass report =
@@ -63,6 +64,7 @@ access-code level buffer =
 
 -- what is known of a request that passed the level check
 pub record Ready (s : State) (medium request : List ℕ) : Type 0 where
+  pub holds : stateHolds s ≡ true
   pub disks : length medium ≡ mediumSize (s .adapter)
   pub long : 28 ≤ length request
   pub room : structureSize (controlCode request) + dataSize (controlCode request) (bodyOf request) ≤ length (bodyOf request)
@@ -80,6 +82,7 @@ handled-by s medium request P number refuse serve =
     let long : 28 ≤ length request = heard-buffer s (length medium) (length request) call refl e in
     either-by (λ x. P (replied (s .level) x)) (eqb (accessCode (s .level) request) success)
     (λ y. serve (record {
+      holds = heard-state s (length medium) (length request) call refl e;
       disks = heard-medium s (length medium) (length request) call refl e;
       long = long;
       room = access-room (s .level) request (accessCode (s .level) request) refl (eqb-true (accessCode (s .level) request) success y);

@@ -1,17 +1,18 @@
 -- What the proofs of this crate cite. Assumes nothing.
 use mathlib.Core.Path.{_≡_, refl, sym, _∙_, ap}
-use mathlib.Core.Bool.{true, false}
+use mathlib.Core.Bool.{Bool, true, false, cond}
 use mathlib.Core.List.{List, [], _++_, append-nil}
-use Prim.Native.Nat.{ℕ, _+_, _-_, _≤_}
+use Prim.Native.Nat.{ℕ, _+_, _-_, _<_, _≤_}
 use native.Mathlib.Nat.{le-refl, le-trans, le-add-right}
 use native.Mathlib.Omega.{arith}
 use lib.Dec.{eqb, ltb}
 use lib.ListN.{length, take, drop, drop-of-length-le, length-drop}
-use borrow.Author.Tests.{eqb-true, ltb-false}
-use Rattle.laws.specs.Choice.{came-then, came-else}
+use borrow.Author.Tests.{eqb-true, eqb-false, ltb-false}
+use Rattle.laws.specs.Choice.{by-bool, came-then, came-else}
 use Rattle.laws.specs.Splice.{splice, rest}
-use Rattle.codes.specs.Codes.{stpPassthru}
+use Rattle.codes.specs.Codes.{stpPassthru, shortBuffer}
 use Rattle.wire.specs.Number.{bytes}
+use Rattle.level.specs.declared.Level.{Level}
 use Rattle.adapter.specs.declared.Adapter.{Adapter}
 use Rattle.disk.specs.Disk.{dataLength}
 use Rattle.header.specs.Table.{structureSize, dataSize}
@@ -20,10 +21,12 @@ use Rattle.state.specs.declared.State.{State}
 use Rattle.state.specs.State.{stateHolds}
 use Rattle.state.specs.Laws.{state-phys, state-rows}
 use Rattle.adapter.specs.Adapter.{mediumSize}
-use Rattle.changes.specs.declared.Served.{Served as Result}
-use Rattle.changes.specs.Changed.{Changed, left}
-use Rattle.dispatch.specs.Serve.{leaves, changed, served}
-use Rattle.dispatch.specs.Request.{outcome, callNumber, untouched, answer, inBuffer, refused, answered, replied, answeredAt}
+use Rattle.changes.specs.declared.Change.{Change}
+use Rattle.changes.specs.Changed.{Served as Result, Changed, keeps, applied, servedBy, left}
+use Rattle.reports.specs.Report.{Report, report}
+use Rattle.passthrough.specs.Passthrough.{Passed, leaves as passes}
+use Rattle.dispatch.specs.Serve.{leaves, changed, reported, passed, served}
+use Rattle.dispatch.specs.Request.{outcome, stateNumber, bufferNumber, callNumber, untouched, answer, inBuffer, refused, answered, stateOf, replies, replied, answeredAt}
 
 -- ---- rooms
 
@@ -44,11 +47,32 @@ passthrough-lent control n body e h = rw e at h
 
 -- ---- what a call left
 
-pub changed-by : (s : Result) (medium body : List ℕ) (c : Changed) → left s body ≡ c → leaves (s .code) (s .adapter) medium body ≡ changed medium c
-changed-by s medium body c e = ap (changed medium) e
+pub changed-by : (ad : Adapter) (c : Change) (medium body : List ℕ) (x : Changed) → left (servedBy ad c) body ≡ x
+    → leaves (c .code) (applied ad c) medium body ≡ changed medium x
+changed-by ad c medium body x e = ap (changed medium) e
 
-pub set-by : (s t : Result) (medium body : List ℕ) → s ≡ t → leaves (s .code) (s .adapter) medium body ≡ changed medium (left t body)
-set-by s t medium body e = ap (λ (r : Result). changed medium (left r body)) e
+pub set-by : (ad : Adapter) (c : Change) (s : Result) (medium body : List ℕ) → servedBy ad c ≡ s
+    → leaves (c .code) (applied ad c) medium body ≡ changed medium (left s body)
+set-by ad c s medium body e = ap (λ (r : Result). changed medium (left r body)) e
+
+-- where no phy is stored
+module _ (ad : Adapter) (code : ℕ) (c : Change) (e : c ≡ keeps code) where
+  pub reported-by : (body : List ℕ) (r : Report) → report code body ≡ r → left (servedBy ad c) body ≡ reported ad r
+  unfolding keeps applied
+  reported-by body r p = rw e (ap (reported ad) p)
+
+  pub passed-by : (medium body : List ℕ) (p : Passed) → passes code medium body ≡ p → leaves (c .code) (applied ad c) medium body ≡ passed ad p
+  unfolding keeps applied
+  passed-by medium body p q = rw e (ap (passed ad) q)
+
+  -- a code that a callee gave
+  pub refused-by : (n : ℕ) (medium buffer : List ℕ) → code ≡ n → answer (servedBy ad c) medium buffer ≡ refused n ad medium buffer
+  unfolding keeps applied
+  refused-by n medium buffer p = rw (e, p) refl
+
+  pub kept-number : c .number .0 < 32
+  unfolding keeps
+  kept-number = rw e (omega arith)
 
 -- ---- the body, lent as the rest of the buffer
 
@@ -57,27 +81,35 @@ module _ (buffer : List ℕ) (code : ℕ) (e : code ≡ controlCode buffer) wher
       → structureSize code + dataSize code (take (length buffer - 28) (drop 28 buffer)) ≤ length (take (length buffer - 28) (drop 28 buffer))
   body-room h = rw (rest, e) h
 
-  pub body-back : (ad : Adapter) (medium medium′ body : List ℕ) (s : Result)
-      → leaves (s .code) (s .adapter) medium′ body ≡ served ad medium code (take (length buffer - 28) (drop 28 buffer))
-      → answer s medium′ (take 28 buffer ++ (body ++ drop (length buffer - 28) (drop 28 buffer))) ≡ inBuffer buffer (served ad medium (controlCode buffer) (bodyOf buffer))
-  body-back ad medium medium′ body s p =
+  pub body-back : (ad : Adapter) (medium medium′ body : List ℕ) (c : Change)
+      → leaves (c .code) (applied ad c) medium′ body ≡ served ad medium code (take (length buffer - 28) (drop 28 buffer))
+      → answer (servedBy ad c) medium′ (take 28 buffer ++ (body ++ drop (length buffer - 28) (drop 28 buffer))) ≡ inBuffer buffer (served ad medium (controlCode buffer) (bodyOf buffer))
+  body-back ad medium medium′ body c p =
       let q : drop (length buffer - 28) (drop 28 buffer) ≡ [] = drop-of-length-le (drop 28 buffer) {i = length buffer - 28} (rw length-drop (le-refl (length buffer - 28))) in
       rw (q, append-nil) (ap (inBuffer buffer) (rw (rest, e) at p))
 
 -- ---- a call whose number is 0
 
+-- of two numbers in order the first that is not 0
+numbered : (n m : ℕ) → cond (eqb n 0) m n ≡ 0 → (n ≡ 0) × (m ≡ 0)
+numbered n m h = by-bool (λ (b : Bool). eqb n 0 ≡ b → cond b m n ≡ 0 → (n ≡ 0) × (m ≡ 0)) (λ e p. (eqb-true n 0 e, p)) (λ e p. absurd (eqb-false n 0 e p)) (eqb n 0) refl h
+
 module _ (s : State) (medium buffer call : ℕ) (e : call ≡ callNumber s medium buffer) (z : call ≡ 0) where
   -- what is known then
   heard : (stateHolds s ≡ true) × (eqb (mediumSize (s .adapter)) medium ≡ true) × (ltb buffer 28 ≡ false)
-  unfolding callNumber
+  unfolding callNumber bufferNumber stateNumber
   heard =
-      let a = came-then Zero (stateHolds s) (λ q. omega arith) (sym e ∙ z) in
-      let b = came-then Zero (eqb (mediumSize (s .adapter)) medium) (λ q. omega arith) (a .1) in
-      let c = came-else Zero (ltb buffer 28) (λ q. omega arith) (b .1) in
-      (a .0, b .0, c .0)
+      let a = numbered (stateNumber s medium) (cond (ltb buffer 28) shortBuffer 0) (sym e ∙ z) in
+      let b = came-then Zero (stateHolds s) (λ q. omega arith) (a .0) in
+      let c = came-then Zero (eqb (mediumSize (s .adapter)) medium) (λ q. omega arith) (b .1) in
+      let d = came-else Zero (ltb buffer 28) (λ q. omega arith) (a .1) in
+      (b .0, c .0, d .0)
     where
       Zero : ℕ → Type 0
       Zero n = n ≡ 0
+
+  pub heard-state : stateHolds s ≡ true
+  heard-state = heard .0
 
   pub heard-phys : s .adapter .«phy_count» ≤ 32
   heard-phys = state-phys s (stateHolds s) refl (heard .0)
@@ -91,19 +123,25 @@ module _ (s : State) (medium buffer call : ℕ) (e : call ≡ callNumber s mediu
   pub heard-buffer : 28 ≤ buffer
   heard-buffer = ltb-false buffer 28 (heard .2)
 
+-- the call's number, from that of the state and the medium
+pub called : (s : State) (medium buffer number r : ℕ) → number ≡ stateNumber s medium → r ≡ bufferNumber number buffer → r ≡ callNumber s medium buffer
+unfolding callNumber
+called s medium buffer number r e p = rw (← e) p
+
 -- a call that gives a number
 pub untouched-by : (call n : ℕ) (s : State) (medium buffer : List ℕ) → call ≡ n
     → outcome (record { call = call; state = s }) medium buffer ≡ untouched n s medium buffer
 untouched-by call n s medium buffer e = rw e
 
--- a code that a callee gave
-pub refused-by : (code n : ℕ) (ad : Adapter) (medium buffer : List ℕ) → code ≡ n
-    → answer (record { code = code; adapter = ad }) medium buffer ≡ refused n ad medium buffer
-refused-by code n ad medium buffer e = rw e
-
 -- an answer whose return code was written
-pub reply-by : (s : State) (r : Result) (medium medium′ buffer buffer′ reply : List ℕ)
-    → answer r medium′ buffer′ ≡ answered (s .adapter) medium buffer (accessCode (s .level) buffer) → reply ≡ splice buffer′ 20 (bytes 4 (r .code))
-    → outcome (record { call = 0; state = record { level = s .level; adapter = r .adapter } }) medium′ reply ≡ answeredAt s medium buffer
+pub reply-by : (level : Level) (ad : Adapter) (c : Change) (medium medium′ buffer buffer′ reply : List ℕ)
+    → answer (servedBy ad c) medium′ buffer′ ≡ answered ad medium buffer (accessCode level buffer) → reply ≡ splice buffer′ 20 (bytes 4 (c .code))
+    → outcome (replies level ad c) medium′ reply ≡ answeredAt (stateOf level ad) medium buffer
 unfolding answeredAt
-reply-by s r medium medium′ buffer buffer′ reply p q = rw q (ap (replied (s .level)) p)
+reply-by level ad c medium medium′ buffer buffer′ reply p q = rw q (ap (replied level) p)
+
+-- the state with what was changed
+pub state-by : (s : State) (ad : Adapter) (c : Change) (medium medium′ buffer buffer′ : List ℕ) → ad ≡ applied (s .adapter) c
+    → outcome (replies (s .level) (s .adapter) c) medium′ buffer′ ≡ answeredAt (stateOf (s .level) (s .adapter)) medium buffer
+    → outcome (record { call = 0; state = stateOf (s .level) ad }) medium′ buffer′ ≡ answeredAt s medium buffer
+state-by s ad c medium medium′ buffer buffer′ e p = rw e p

@@ -10,7 +10,8 @@ use Rattle.codes.specs.Codes.{success, shortBuffer, mediumLength, badState}
 use Rattle.wire.specs.Number.{bytes}
 use Rattle.level.specs.declared.Level.{Level}
 use Rattle.adapter.specs.declared.Adapter.{Adapter}
-use Rattle.changes.specs.declared.Served.{Served as Result}
+use Rattle.changes.specs.declared.Change.{Change}
+use Rattle.changes.specs.Changed.{applied, Served as Result}
 use Rattle.state.specs.declared.State.{State}
 use Rattle.state.specs.State.{stateHolds}
 use Rattle.adapter.specs.Adapter.{mediumSize}
@@ -29,10 +30,17 @@ pub record Outcome : Type 0 where
 abbrev pub outcome : Handled → List ℕ → List ℕ → Outcome
 outcome h medium buffer = record { call = h .call; state = h .state; medium = medium; buffer = buffer }
 
--- "state; medium length; buffer of 28 bytes": the call's number of the first that fails, or 0
+-- "state; medium length": the call's number of the first that fails, or 0. Nothing of the request is looked at
+unfoldable pub stateNumber : State → ℕ → ℕ
+stateNumber s medium = cond (stateHolds s) (cond (eqb (mediumSize (s .adapter)) medium) 0 mediumLength) badState
+
+-- "buffer of 28 bytes", where the number of the checks before it is 0
+unfoldable pub bufferNumber : ℕ → ℕ → ℕ
+bufferNumber number buffer = cond (eqb number 0) (cond (ltb buffer 28) shortBuffer 0) number
+
+-- "state; medium length; buffer of 28 bytes"
 unfoldable pub callNumber : State → ℕ → ℕ → ℕ
-callNumber s medium buffer =
-    cond (stateHolds s) (cond (eqb (mediumSize (s .adapter)) medium) (cond (ltb buffer 28) shortBuffer 0) mediumLength) badState
+callNumber s medium buffer = bufferNumber (stateNumber s medium) buffer
 
 -- "with any other [number], buffer, state and medium are untouched"
 abbrev pub untouched : ℕ → State → List ℕ → List ℕ → Outcome
@@ -62,10 +70,18 @@ unfoldable pub answered : Adapter → List ℕ → List ℕ → ℕ → Answer
 answered ad medium buffer code =
     cond (eqb code success) (inBuffer buffer (served ad medium (controlCode buffer) (bodyOf buffer))) (refused code ad medium buffer)
 
+-- the state of a level and an adapter
+abbrev pub stateOf : Level → Adapter → State
+stateOf level ad = record { level = level; adapter = ad }
+
 -- "the return code is bytes 20–23", and "The call's number is 0 when a return code is written"
 abbrev pub replied : Level → Answer → Outcome
 replied level a =
-    record { call = 0; state = record { level = level; adapter = a .adapter }; medium = a .medium; buffer = splice (a .buffer) 20 (bytes 4 (a .code)) }
+    record { call = 0; state = stateOf level (a .adapter); medium = a .medium; buffer = splice (a .buffer) 20 (bytes 4 (a .code)) }
+
+-- what a change, once its return code is written, gives back
+abbrev pub replies : Level → Adapter → Change → Handled
+replies level ad c = record { call = 0; state = stateOf level (applied ad c) }
 
 -- a buffer of 28 bytes or more: the checks from HeaderLength on, and the return code written
 unfoldable pub answeredAt : State → List ℕ → List ℕ → Outcome

@@ -29,8 +29,8 @@ abbrev pub leaves : ℕ → Adapter → List ℕ → List ℕ → Served
 leaves code ad medium body = record { code = code; adapter = ad; medium = medium; body = body }
 
 -- a request that only reports changes no table
-abbrev pub unchanged : Adapter → Report → Changed
-unchanged ad r = record { code = r .code; adapter = ad; body = r .body }
+abbrev pub reported : Adapter → Report → Changed
+reported ad r = record { code = r .code; adapter = ad; body = r .body }
 
 -- one that sees no disk
 abbrev pub changed : List ℕ → Changed → Served
@@ -56,4 +56,4 @@ served ad medium control body =
     cond (eqb control setPhyInfo) (changed medium (changedBy (setInfo ad body) body))
     (cond (eqb control getLinkErrors) (changed medium (linkErrors ad body))
     (cond (eqb control stpPassthru) (passed ad (passthrough ad medium body))
-    (changed medium (unchanged ad (reportOf ad control body)))))
+    (changed medium (reported ad (reportOf ad control body)))))

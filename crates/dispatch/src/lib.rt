@@ -4,7 +4,10 @@
 mod handle;
 mod serve;
 
+pub use handle::buffer_number;
+pub use handle::reply;
 pub use handle::request;
+pub use handle::state_number;
 pub use state::Opened;
 pub use state::State;
 pub use state::open;

@@ -1,8 +1,9 @@
 // The code's own checks and its effect, for each control code. Nothing here sees a level or a header.
 use adapter::Adapter;
-use changes::Served;
+use changes::Change;
+use changes::unchanged;
 ghost use mathlib.Core.Path.{_≡_};
-ghost use Prim.Native.Nat.{_+_, _≤_};
+ghost use Prim.Native.Nat.{_+_, _<_, _≤_};
 ghost use lib.ListN.{length};
 ghost use Rattle.adapter.specs.Adapter.{mediumSize};
 ghost use Rattle.reports.specs.Report.{report};
@@ -13,8 +14,8 @@ ghost use Rattle.reports.specs.DeviceAddress.{deviceAddress};
 ghost use Rattle.passthrough.specs.Passthrough.{passthrough};
 ghost use Rattle.disk.specs.Disk.{dataLength};
 ghost use Rattle.header.specs.Table.{structureSize, dataSize};
-ghost use Rattle.dispatch.specs.Serve.{leaves, unchanged, passed, reportOf, served};
-ghost use Rattle.changes.specs.Changed.{left};
+ghost use Rattle.dispatch.specs.Serve.{leaves, reported, passed, reportOf, served};
+ghost use Rattle.changes.specs.Changed.{applied, servedBy, left};
 
 fn driver_info(adapter: Adapter, body: &mut [u8]) -> u32
     requires { ⌜ 174 ≤ length (now body) ⌝ }
@@ -76,33 +77,34 @@ fn report(adapter: Adapter, control: u32, body: &mut [u8]) -> u32
     codes::BAD_CONTROL_CODE
 }
 
-fn serve_report(adapter: Adapter, control: u32, body: &mut [u8]) -> Served
+fn serve_report(adapter: Adapter, control: u32, body: &mut [u8]) -> Change
     requires { ⌜ adapter .«phy_count» ≤ 32 ⌝ }
     requires { ⌜ adapter .«row_count» ≤ 64 ⌝ }
     requires { ⌜ structureSize control ≤ length (now body) ⌝ }
-    ensures { λ s. ⌜ left s (now (body .exit)) ≡ unchanged adapter (reportOf adapter control (now (body .entry))) ⌝ }
+    ensures { λ c. ⌜ left (servedBy adapter c) (now (body .exit)) ≡ reported adapter (reportOf adapter control (now (body .entry))) ⌝ }
+    ensures { λ c. ⌜ c .number .0 < 32 ⌝ }
 {
-    let code = report(adapter, control, body);
-    Served { code, adapter }
+    unchanged(report(adapter, control, body))
 }
 
-fn serve_passthrough(adapter: Adapter, medium: &mut [u8], body: &mut [u8]) -> Served
+fn serve_passthrough(adapter: Adapter, medium: &mut [u8], body: &mut [u8]) -> Change
     requires { ⌜ adapter .«phy_count» ≤ 32 ⌝ }
     requires { ⌜ length (now medium) ≡ mediumSize adapter ⌝ }
     requires { ⌜ 136 + dataLength (now body) ≤ length (now body) ⌝ }
-    ensures { λ s. ⌜ leaves (s .code) (s .adapter) (now (medium .exit)) (now (body .exit)) ≡ passed adapter (passthrough adapter (now (medium .entry)) (now (body .entry))) ⌝ }
+    ensures { λ c. ⌜ leaves (c .code) (applied adapter c) (now (medium .exit)) (now (body .exit)) ≡ passed adapter (passthrough adapter (now (medium .entry)) (now (body .entry))) ⌝ }
+    ensures { λ c. ⌜ c .number .0 < 32 ⌝ }
 {
-    let code = passthrough::pass_through(adapter, medium, body);
-    Served { code, adapter }
+    unchanged(passthrough::pass_through(adapter, medium, body))
 }
 
 // Serves a request whose header and level passed.
-pub fn serve(adapter: Adapter, medium: &mut [u8], control: u32, body: &mut [u8]) -> Served
+pub fn serve(adapter: Adapter, medium: &mut [u8], control: u32, body: &mut [u8]) -> Change
     requires { ⌜ adapter .«phy_count» ≤ 32 ⌝ }
     requires { ⌜ adapter .«row_count» ≤ 64 ⌝ }
     requires { ⌜ length (now medium) ≡ mediumSize adapter ⌝ }
     requires { ⌜ structureSize control + dataSize control (now body) ≤ length (now body) ⌝ }
-    ensures { λ s. ⌜ leaves (s .code) (s .adapter) (now (medium .exit)) (now (body .exit)) ≡ served adapter (now (medium .entry)) control (now (body .entry)) ⌝ }
+    ensures { λ c. ⌜ leaves (c .code) (applied adapter c) (now (medium .exit)) (now (body .exit)) ≡ served adapter (now (medium .entry)) control (now (body .entry)) ⌝ }
+    ensures { λ c. ⌜ c .number .0 < 32 ⌝ }
 {
     if control == codes::SET_PHY_INFO {
         return changes::set_info(adapter, body);

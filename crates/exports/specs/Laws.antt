@@ -2,21 +2,28 @@
 use mathlib.Core.Path.{_≡_, refl, sym, _∙_, ap}
 use mathlib.Core.Bool.{true, false}
 use mathlib.Core.List.{List, [], _++_, append-assoc, append-nil}
-use Prim.Native.Nat.{ℕ, zero, suc, _+_, _-_, _*_, _<_, _≤_}
+use Prim.Native.Nat.{ℕ, zero, suc, _+_, _-_, _*_, _/_, _<_, _≤_}
 use native.Mathlib.Nat.{le-refl, add-assoc, sub-zero, add-zero, zero-add, add-sub-cancel-left}
 use native.Mathlib.Omega.{arith}
 use lib.ListN.{length, take, drop, length-append, length-drop, drop-of-length-le, take-append-drop}
 use lib.Seq.{take-at, drop-at, drop-drop, take-take, length-take-le}
-use borrow.Author.Tests.{le-leb, lt-leb}
+use borrow.Author.Tests.{le-leb, lt-leb, ne-eqb}
 use Rattle.laws.specs.Choice.{came-then, came-else}
 use Rattle.laws.specs.Splice.{part, splice, rest, drop-take}
 use Rattle.wire.specs.Number.{number, bytes, length-bytes}
 use Rattle.state.specs.declared.State.{State}
-use Rattle.dispatch.specs.declared.Handled.{Handled}
-use Rattle.dispatch.specs.Request.{Outcome, outcome, handled}
+use Rattle.state.specs.declared.Opened.{Opened}
+use Rattle.state.specs.Open.{openedOf}
+use Rattle.level.specs.declared.Level.{Level}
+use Rattle.adapter.specs.declared.Adapter.{Adapter}
+use Rattle.adapter.specs.Adapter.{withPhy, mediumSize}
+use Rattle.changes.specs.declared.Change.{Change}
+use Rattle.changes.specs.Changed.{keeps, applied}
+use Rattle.dispatch.specs.Request.{Outcome, outcome, stateNumber, bufferNumber, callNumber, stateOf, replies, untouched, answeredAt, handled}
+use Rattle.dispatch.specs.Laws.{called, heard-phys, heard-rows, heard-medium, heard-buffer}
 use Rattle.claims.specs.Run.{Reply, End, replyOf, entryOf, preceded, run}
-use Rattle.claims.specs.Ways.{handled-by}
-use Rattle.exports.specs.Session.{sizeOf, wholeFirst, firstOf, behindFirst, requestsOf, withReplies, reply, codeOf, lineOf, linesOf, Ran, ran, shown, ranFrom, endFrom, Left, left, afterRequest, sized, turned}
+use Rattle.claims.specs.Held.{Sized, sized-step, number-step, sized-opened}
+use Rattle.exports.specs.Session.{sizeOf, wholeFirst, firstOf, behindFirst, requestsOf, withReplies, reply, codeOf, lineOf, linesOf, Ran, ran, shown, ranFrom, sessionRun, endFrom, Left, left, afterRequest, sized, turned}
 
 -- ---- where a request ends
 
@@ -72,17 +79,42 @@ line-lent lines count room h k =
 
 -- ---- a request
 
--- a return code is there to be read
-pub code-there : (s : State) (medium buffer : List ℕ) (h : Handled) (medium′ buffer′ : List ℕ) → outcome h medium′ buffer′ ≡ handled s medium buffer
-    → length buffer′ ≡ length buffer → h .call ≡ 0 → 24 ≤ length buffer′
-code-there s medium buffer h medium′ buffer′ e l z =
-    let long : 28 ≤ length buffer = handled-by s medium buffer (λ o. o .call ≡ 0 → 28 ≤ length buffer) (λ call p q. omega arith) (λ code p q k w. k) (λ r w. r .long) (sym (ap (λ (o : Outcome). o .call) e) ∙ z) in
-    omega arith
+-- what is known where the call's number is 0
+module _ (level : Level) (ad : Adapter) (medium buffer number call : ℕ) (n : number ≡ stateNumber (stateOf level ad) medium) (e : call ≡ bufferNumber number buffer) (z : call ≡ 0) where
+  called-here : call ≡ callNumber (stateOf level ad) medium buffer
+  called-here = called (stateOf level ad) medium buffer number call n e
 
--- what a request and its line leave
-pub request-left : (h : Handled) (o : Outcome) (code : ℕ) (medium buffer line : List ℕ) → outcome h medium buffer ≡ o → code ≡ codeOf (reply (h .call) buffer)
-    → line ≡ bytes 4 (h .call) ++ bytes 4 code → left (h .state) medium buffer line ≡ afterRequest o
-request-left h o code medium buffer line e p q = rw (q, p) (ap (λ (x : Outcome). afterRequest x) e)
+  pub reply-phys : ad .«phy_count» ≤ 32
+  reply-phys = heard-phys (stateOf level ad) medium buffer call called-here z
+
+  pub reply-rows : ad .«row_count» ≤ 64
+  reply-rows = heard-rows (stateOf level ad) medium buffer call called-here z
+
+  pub reply-medium : medium ≡ mediumSize ad
+  reply-medium = heard-medium (stateOf level ad) medium buffer call called-here z
+
+  pub reply-buffer : 28 ≤ buffer
+  reply-buffer = heard-buffer (stateOf level ad) medium buffer call called-here z
+
+module _ (level : Level) (ad : Adapter) (medium buffer : List ℕ) (number call : ℕ) (n : number ≡ stateNumber (stateOf level ad) (length medium)) (e : call ≡ bufferNumber number (length buffer)) where
+  -- it is answered
+  pub handled-replied : (l : Left) → call ≡ 0 → l ≡ afterRequest (answeredAt (stateOf level ad) medium buffer) → l ≡ afterRequest (handled (stateOf level ad) medium buffer)
+  unfolding handled
+  handled-replied l z p = rw (← called (stateOf level ad) (length medium) (length buffer) number call n e, z) p
+
+  -- or the call gives a number, and nothing is written but that
+  pub handled-refused : (c : Change) (code : ℕ) (line : List ℕ) → (call ≡ 0 → ⊥) → c ≡ keeps code → line ≡ bytes 4 call ++ bytes 4 4294967295
+      → left (stateOf level (applied ad c)) medium buffer line ≡ afterRequest (handled (stateOf level ad) medium buffer)
+  unfolding handled codeOf keeps applied
+  handled-refused c code line h k p =
+      let q : handled (stateOf level ad) medium buffer ≡ untouched call (stateOf level ad) medium buffer = rw (← called (stateOf level ad) (length medium) (length buffer) number call n e, ne-eqb call 0 h) refl in
+      rw (q, k, p, ne-eqb call 0 h) refl
+
+-- what an answered request and its line leave
+pub replied-left : (level : Level) (ad : Adapter) (c : Change) (o : Outcome) (code : ℕ) (medium buffer line : List ℕ) → outcome (replies level ad c) medium buffer ≡ o
+    → code ≡ number (part buffer 20 4) → line ≡ bytes 4 0 ++ bytes 4 code → left (stateOf level (applied ad c)) medium buffer line ≡ afterRequest o
+unfolding codeOf
+replied-left level ad c o code medium buffer line e p q = rw (q, p) (ap (λ (x : Outcome). afterRequest x) e)
 
 -- the same behind its length
 pub sized-left : (s s′ : State) (medium medium′ request buffer line : List ℕ)
@@ -158,6 +190,35 @@ unfolding turned part
 turned-first s medium session =
     rw (take-take 4 (4 + sizeOf session) session (omega arith), drop-take 4 (4 + sizeOf session) session, add-sub-cancel-left) refl
 
+-- the adapter with what a change stores, where it stores one and where it does not
+pub applied-stored : (ad bd : Adapter) (c : Change) → c .stored ≡ true → bd ≡ withPhy ad (c .number .0) (c .phy) → bd ≡ applied ad c
+unfolding applied
+applied-stored ad bd c e p = rw e p
+
+pub applied-kept : (ad : Adapter) (c : Change) → c .stored ≡ false → ad ≡ applied ad c
+unfolding applied
+applied-kept ad c e = rw e refl
+
+-- what goes on holding of the state
+module _ (level : Level) (ad bd : Adapter) (c : Change) (medium medium′ request request′ line : List ℕ)
+    (p : left (stateOf level (applied ad c)) medium′ request′ line ≡ turned (stateOf level ad) medium request) (z : Sized ad) (e : bd ≡ applied ad c) where
+  abbrev after : Outcome
+  after = handled (stateOf level ad) medium (drop 4 request)
+
+  state-now : stateOf level (applied ad c) ≡ after .state
+  unfolding turned
+  state-now = ap (λ (l : Left). l .state) p
+
+  medium-now : medium′ ≡ after .medium
+  unfolding turned
+  medium-now = ap (λ (l : Left). l .medium) p
+
+  pub sized-next : Sized bd
+  sized-next = rw (e, ap (λ (x : State). x .adapter) state-now) (sized-step (stateOf level ad) medium (drop 4 request) z)
+
+  pub number-next : (number : ℕ) → number ≡ stateNumber (stateOf level ad) (length medium) → number ≡ stateNumber (stateOf level bd) (length medium′)
+  number-next number n = n ∙ sym (rw (e, state-now, medium-now) (number-step (stateOf level ad) medium (drop 4 request) z))
+
 -- nothing is done at the start
 pub run-starts : (room : ℕ) (s : State) (medium session lines : List ℕ)
     → ranFrom room s medium session lines ≡ behind 0 [] [] (ranFrom (room - 0) s medium session lines)
@@ -187,20 +248,20 @@ module _ (r : Ran) (s : State) (medium session lines : List ℕ) (at count room 
 
   -- a request is handled
   module _ (end : ℕ) (e : end ≡ endFrom session at) (h : (end ≡ at → ⊥)) (k : end ≤ length session) (room′ : 8 * room ≤ length lines) (c : count < room)
-      (s′ : State) (medium′ request line : List ℕ) (p : left s′ medium′ request line ≡ turned s medium (take (end - at) (drop at session)))
-      (l : length request ≡ length (take (end - at) (drop at session))) where
+      (level : Level) (ad bd : Adapter) (medium′ request line : List ℕ) (p : left (stateOf level ad) medium′ request line ≡ turned s medium (take (end - at) (drop at session)))
+      (l : length request ≡ length (take (end - at) (drop at session))) (stored : bd ≡ ad) where
     abbrev session′ : List ℕ
     session′ = take at session ++ (request ++ drop (end - at) (drop at session))
 
     abbrev lines′ : List ℕ
     lines′ = take (8 * count) lines ++ (line ++ drop (8 * count + 8 - 8 * count) (drop (8 * count) lines))
 
-    pub run-goes-on : r ≡ behind (count + 1) (take end session′) (take (8 * (count + 1)) lines′) (ranFrom (room - (count + 1)) s′ medium′ (drop end session′) (drop (8 * (count + 1)) lines′))
+    pub run-goes-on : r ≡ behind (count + 1) (take end session′) (take (8 * (count + 1)) lines′) (ranFrom (room - (count + 1)) (stateOf level bd) medium′ (drop end session′) (drop (8 * (count + 1)) lines′))
     run-goes-on =
         let o : Outcome = handled s medium (firstOf (drop at session)) in
         let x : end ≡ at + (4 + sizeOf (drop at session)) = whole-at session at end e h .1 in
         let n : end - at ≡ 4 + sizeOf (drop at session) = omega arith in
-        let q : left s′ medium′ request line ≡ sized (take 4 (drop at session)) (afterRequest o) = rw n at p ∙ turned-first s medium (drop at session) in
+        let q : left (stateOf level ad) medium′ request line ≡ sized (take 4 (drop at session)) (afterRequest o) = rw n at p ∙ turned-first s medium (drop at session) in
         let size : length request ≡ end - at = l ∙ length-take-le (end - at) (drop at session) (rw length-drop (omega arith)) in
         let eight : length line ≡ 8 = ap (λ (x : Left). length (x .line)) q ∙ length-line (replyOf o) in
         let front : length (take at session) ≡ at = length-take-le at session (omega arith) in
@@ -216,6 +277,7 @@ module _ (r : Ran) (s : State) (medium session lines : List ℕ) (at count room 
           drop-cut (take (8 * count) lines) line (drop (8 * count + 8 - 8 * count) (drop (8 * count) lines)) (8 * (count + 1)) b,
           n,
           w,
+          stored,
         )
         (g
         ∙ ap (behind count (take at session) (take (8 * count) lines)) (rw m (ran-more (room - (count + 1)) s medium (drop at session) (drop (8 * count) lines) (whole-at session at end e h .0)))
@@ -223,3 +285,14 @@ module _ (r : Ran) (s : State) (medium session lines : List ℕ) (at count room 
         (ranFrom (room - (count + 1)) (o .state) (o .medium) (behindFirst (drop at session)) (drop 8 (drop (8 * count) lines)))
         ∙ sym (ap (λ (x : Left). behind (count + 1) (take at session ++ x .bytes) (take (8 * count) lines ++ x .line)
         (ranFrom (room - (count + 1)) (x .state) (x .medium) (behindFirst (drop at session)) (drop 8 (drop (8 * count) lines)))) q))
+
+-- ---- the whole run
+
+module _ (text file medium : List ℕ) (o : Opened) (e : o ≡ openedOf text file medium) where
+  pub opened-sized : Sized (o .state .adapter)
+  opened-sized = rw e (sized-opened text file medium)
+
+  pub opened-ran : (session lines : List ℕ) (r : Ran) → r ≡ ranFrom (length lines / 8) (stateOf (o .state .level) (o .state .adapter)) medium session lines
+      → r ≡ sessionRun text file medium session lines
+  unfolding sessionRun
+  opened-ran session lines r p = rw e at p

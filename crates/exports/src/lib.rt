@@ -30,5 +30,6 @@ pub extern "C" fn ascheknopf_run(
     ensures { λ r. ⌜ ran r (now (medium .exit)) (now (session .exit)) (now (lines .exit)) ≡ sessionRun (now (text .entry)) (now (file .entry)) (now (medium .entry)) (now (session .entry)) (now (lines .entry)) ⌝ }
 {
     let opened = dispatch::open(text, file, medium);
-    run(opened.state, medium, session, lines)
+    let state = opened.state;
+    run(state.level, state.adapter, medium, session, lines)
 }

@@ -1,12 +1,18 @@
 // A session in the program's format: each request a 4-byte length, then its bytes.
+use adapter::Adapter;
+use changes::Change;
 use dispatch::State;
+use level::Level;
 ghost use mathlib.Core.Path.{_≡_};
 ghost use mathlib.Core.List.{_++_};
-ghost use Prim.Native.Nat.{_/_, _≤_};
+ghost use Prim.Native.Nat.{_/_, _<_, _≤_};
 ghost use lib.ListN.{length};
 ghost use Rattle.wire.specs.Number.{bytes};
-ghost use Rattle.dispatch.specs.Request.{handled};
-ghost use Rattle.exports.specs.Session.{endFrom, reply, codeOf, left, afterRequest, turned, ran, ranFrom};
+ghost use Rattle.adapter.specs.Adapter.{mediumSize};
+ghost use Rattle.changes.specs.Changed.{applied};
+ghost use Rattle.dispatch.specs.Request.{stateOf, stateNumber, answeredAt, handled};
+ghost use Rattle.claims.specs.Held.{Sized};
+ghost use Rattle.exports.specs.Session.{endFrom, left, afterRequest, turned, ran, ranFrom};
 
 // The longest request.
 const REQUEST_LIMIT: u32 = 32768;
@@ -34,17 +40,6 @@ fn end_from(session: &[u8], at: usize) -> usize
     at + (4 + size as usize)
 }
 
-// The return code that a request left in its buffer.
-fn return_code(call: u32, buffer: &[u8]) -> u32
-    requires { ⌜ (call ≡ 0 → 24 ≤ length (now buffer)) ⌝ }
-    ensures { λ r. ⌜ r ≡ codeOf (reply call (now (buffer .entry))) ⌝ }
-{
-    if call == 0 {
-        return wire::read32(buffer, 20);
-    }
-    NO_CODE
-}
-
 // Writes a request's line of the record.
 fn write_line(line: &mut [u8], call: u32, code: u32)
     requires { ⌜ length (now line) ≡ 8 ⌝ }
@@ -54,30 +49,82 @@ fn write_line(line: &mut [u8], call: u32, code: u32)
     wire::write32(line, 4, code);
 }
 
-// Handles a request, and writes its line.
-fn handle(state: State, medium: &mut [u8], buffer: &mut [u8], line: &mut [u8]) -> State
+// Handles a request that passed the checks of the call, and writes its line.
+fn reply(
+    level: Level,
+    adapter: Adapter,
+    medium: &mut [u8],
+    buffer: &mut [u8],
+    line: &mut [u8],
+) -> Change
+    requires { ⌜ adapter .«phy_count» ≤ 32 ⌝ }
+    requires { ⌜ adapter .«row_count» ≤ 64 ⌝ }
+    requires { ⌜ length (now medium) ≡ mediumSize adapter ⌝ }
+    requires { ⌜ 28 ≤ length (now buffer) ⌝ }
     requires { ⌜ length (now line) ≡ 8 ⌝ }
-    ensures { λ s. ⌜ left s (now (medium .exit)) (now (buffer .exit)) (now (line .exit)) ≡ afterRequest (handled state (now (medium .entry)) (now (buffer .entry))) ⌝ }
+    ensures { λ c. ⌜ left (stateOf level (applied adapter c)) (now (medium .exit)) (now (buffer .exit)) (now (line .exit)) ≡ afterRequest (answeredAt (stateOf level adapter) (now (medium .entry)) (now (buffer .entry))) ⌝ }
+    ensures { λ c. ⌜ c .number .0 < 32 ⌝ }
 {
-    let handled = dispatch::request(state, medium, buffer);
-    write_line(line, handled.call, return_code(handled.call, buffer));
-    handled.state
+    let c = dispatch::reply(level, adapter, medium, buffer);
+    let code = wire::read32(buffer, 20);
+    write_line(line, 0, code);
+    c
+}
+
+// Handles a request, and writes its line. `number` is that of the state and the medium.
+fn handle(
+    number: u32,
+    level: Level,
+    adapter: Adapter,
+    medium: &mut [u8],
+    buffer: &mut [u8],
+    line: &mut [u8],
+) -> Change
+    requires { ⌜ number ≡ stateNumber (stateOf level adapter) (length (now medium)) ⌝ }
+    requires { ⌜ length (now line) ≡ 8 ⌝ }
+    ensures { λ c. ⌜ left (stateOf level (applied adapter c)) (now (medium .exit)) (now (buffer .exit)) (now (line .exit)) ≡ afterRequest (handled (stateOf level adapter) (now (medium .entry)) (now (buffer .entry))) ⌝ }
+    ensures { λ c. ⌜ c .number .0 < 32 ⌝ }
+{
+    let call = dispatch::buffer_number(number, buffer.len());
+    if call == 0 {
+        return reply(level, adapter, medium, buffer, line);
+    }
+    write_line(line, call, NO_CODE);
+    changes::unchanged(codes::SUCCESS)
 }
 
 // The same of a request behind its length.
-fn handle_sized(state: State, medium: &mut [u8], request: &mut [u8], line: &mut [u8]) -> State
+fn handle_sized(
+    number: u32,
+    level: Level,
+    adapter: Adapter,
+    medium: &mut [u8],
+    request: &mut [u8],
+    line: &mut [u8],
+) -> Change
+    requires { ⌜ number ≡ stateNumber (stateOf level adapter) (length (now medium)) ⌝ }
     requires { ⌜ 4 ≤ length (now request) ⌝ }
     requires { ⌜ length (now line) ≡ 8 ⌝ }
-    ensures { λ s. ⌜ left s (now (medium .exit)) (now (request .exit)) (now (line .exit)) ≡ turned state (now (medium .entry)) (now (request .entry)) ⌝ }
+    ensures { λ c. ⌜ left (stateOf level (applied adapter c)) (now (medium .exit)) (now (request .exit)) (now (line .exit)) ≡ turned (stateOf level adapter) (now (medium .entry)) (now (request .entry)) ⌝ }
+    ensures { λ c. ⌜ c .number .0 < 32 ⌝ }
 {
-    handle(state, medium, &mut request[4..], line)
+    handle(number, level, adapter, medium, &mut request[4..], line)
 }
 
-// Handles the requests of a session in order, until none is whole or the record is full, and gives their number.
-pub fn run(first: State, medium: &mut [u8], session: &mut [u8], lines: &mut [u8]) -> usize
-    ensures { λ r. ⌜ ran r (now (medium .exit)) (now (session .exit)) (now (lines .exit)) ≡ ranFrom (length (now (lines .entry)) / 8) first (now (medium .entry)) (now (session .entry)) (now (lines .entry)) ⌝ }
+// Handles the requests of a session in order, until none is whole or the record is full, and gives their number. The rules of the state
+// are tested once, since no request breaks them, and a phy is stored in its place.
+pub fn run(
+    level: Level,
+    first: Adapter,
+    medium: &mut [u8],
+    session: &mut [u8],
+    lines: &mut [u8],
+) -> usize
+    requires { ⌜ Sized first ⌝ }
+    ensures { λ r. ⌜ ran r (now (medium .exit)) (now (session .exit)) (now (lines .exit)) ≡ ranFrom (length (now (lines .entry)) / 8) (stateOf level first) (now (medium .entry)) (now (session .entry)) (now (lines .entry)) ⌝ }
 {
-    let mut state = first;
+    let mut adapter = first;
+    let number = dispatch::state_number(State { level, adapter }, medium.len());
     let mut at = 0;
     let mut count = 0;
     let room = lines.len() / 8;
@@ -87,14 +134,19 @@ pub fn run(first: State, medium: &mut [u8], session: &mut [u8], lines: &mut [u8]
             return count;
         }
         let line = 8 * count;
-        state = handle_sized(
-            state,
+        count += 1;
+        let c = handle_sized(
+            number,
+            level,
+            adapter,
             medium,
             &mut session[at..end],
             &mut lines[line..line + 8],
         );
         at = end;
-        count += 1;
+        if c.stored {
+            adapter = adapter.with_phy(c.number, c.phy);
+        }
     }
     count
 }

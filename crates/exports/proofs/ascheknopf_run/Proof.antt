@@ -1,11 +1,10 @@
 -- `exports::ascheknopf_run` meets its contract. Assumes nothing.
+use Rattle.exports.specs.Laws.{opened-ran, opened-sized}
 use borrow.Author.Needs.{needs}
-use Rattle.exports.specs.Session.{sessionRun}
 use Rattle.exports.proofs.ascheknopf_run.Statement.{statement}
 use Rattle.exports.proofs.ascheknopf_run.Tie as tie
 
 pub ascheknopf-run-spec : {M : Type 1} → statement M
-unfolding sessionRun
 ascheknopf-run-spec =
     tie.close
-    (tie.spec (λ c κs. search needs) (λ c κs. search needs) (λ c. search needs) (λ c. search needs) (λ c. search needs) (λ c. cc))
+    (tie.spec (λ c κs. search needs) (λ c κs. search (opened-sized, needs)) (λ c. search needs) (λ c. search needs) (λ c. search needs) (λ c. search (opened-ran, needs)))

@@ -15,13 +15,13 @@ pub const BLOCK: usize = 512;
 /// The bytes of a row, and the rows of a block.
 const ROW_BYTES: usize = 20;
 const ROWS_IN_BLOCK: usize = 25;
-const MOST_PHYS: usize = 32;
-const MOST_ROWS: usize = 64;
+pub const MOST_PHYS: usize = 32;
+pub const MOST_ROWS: usize = 64;
 
 /// Where the driver info stands in block 0.
 const DRIVER_AT: usize = 4;
 /// Where the check stands in a block.
-const CHECK_AT: usize = 508;
+pub const CHECK_AT: usize = 508;
 
 /// The check of a block: the sum of the 127 little-endian words before it, plus the block's number, plus 1.
 pub fn check(block: &[u8], number: usize) -> u32 {
@@ -31,21 +31,21 @@ pub fn check(block: &[u8], number: usize) -> u32 {
     block[..CHECK_AT].chunks(4).fold(first, sum)
 }
 
-/// Writes the check of every block.
-fn seal(file: &mut [u8]) {
-    for (number, block) in file.chunks_mut(BLOCK).enumerate() {
+/// Writes the check of every whole block.
+pub fn seal(file: &mut [u8]) {
+    for (number, block) in file.chunks_exact_mut(BLOCK).enumerate() {
         let check = check(block, number);
         block[CHECK_AT..].copy_from_slice(&check.to_le_bytes());
     }
 }
 
 /// Where row i stands in a file of p phys.
-fn row_at(phys: usize, i: usize) -> usize {
+pub fn row_at(phys: usize, i: usize) -> usize {
     BLOCK * (1 + phys + i / ROWS_IN_BLOCK) + ROW_BYTES * (i % ROWS_IN_BLOCK)
 }
 
 /// The length of a file of p phys and a rows.
-fn file_length(phys: usize, rows: usize) -> usize {
+pub fn file_length(phys: usize, rows: usize) -> usize {
     BLOCK * (1 + phys + rows.div_ceil(ROWS_IN_BLOCK))
 }
 

@@ -1,7 +1,8 @@
 -- `changes::link_errors::get_link_errors` meets its contract. Assumes nothing.
-use borrow.Author.Needs.{needs}
+use Rattle.changes.specs.Laws.{below-kept, left-by, left-keeps}
 use Rattle.changes.specs.LinkErrors.{linkErrors}
 use Rattle.laws.specs.Choice.{picks}
+use borrow.Author.Needs.{needs}
 use Rattle.changes.proofs.link_errors.get_link_errors.Statement.{statement}
 use Rattle.changes.proofs.link_errors.get_link_errors.Tie as tie
 
@@ -9,5 +10,4 @@ pub get-link-errors-spec : {M : Type 1} → statement M
 unfolding linkErrors
 get-link-errors-spec =
     tie.close
-    (tie.spec (λ c. search needs) (λ c. search needs) (λ c. search needs) (λ c. search needs) (λ c κs. search needs)
-    (λ c. search needs) (λ c. search picks) (λ c. search picks) (λ c. search picks))
+    (tie.spec (λ c. search needs) (λ c. search needs) (λ c. search needs) (λ c. search needs) (λ c κs. search needs) (λ c. search needs) (λ c. (search (left-by, picks), search needs)) (λ c κs. search needs) (λ c. (search (left-keeps, picks), search (below-kept, needs))) (λ c κs. search needs) (λ c. (search (left-keeps, picks), search (below-kept, needs))))

@@ -1,4 +1,5 @@
 -- `changes::link_errors::report` meets its contract. Assumes nothing.
+use Rattle.changes.specs.Laws.{below-reset}
 use borrow.Author.Needs.{needs}
 use Rattle.changes.proofs.link_errors.report.Statement.{statement}
 use Rattle.changes.proofs.link_errors.report.Tie as tie
@@ -6,4 +7,4 @@ use Rattle.changes.proofs.link_errors.report.Tie as tie
 pub report-spec : {M : Type 1} → statement M
 report-spec =
     tie.close
-    (tie.spec (λ c κs. search needs) (λ c κs. search needs) (λ c κs. search needs) (λ c. search needs) (λ c. cc))
+    (tie.spec (λ c κs. search needs) (λ c κs. search needs) (λ c κs. search needs) (λ c. search needs) (λ c. (cc, (search (below-reset, needs), cc))))

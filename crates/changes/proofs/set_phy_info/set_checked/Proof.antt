@@ -1,8 +1,8 @@
 -- `changes::set_phy_info::set_checked` meets its contract. Assumes nothing.
-use borrow.Author.Needs.{needs}
+use Rattle.changes.specs.Laws.{maximum-below, minimum-below}
 use Rattle.changes.specs.SetPhyInfo.{setChecked}
-use Rattle.changes.specs.Laws.{minimum-below, maximum-below}
 use Rattle.laws.specs.Choice.{picks}
+use borrow.Author.Needs.{needs}
 use Rattle.changes.proofs.set_phy_info.set_checked.Statement.{statement}
 use Rattle.changes.proofs.set_phy_info.set_checked.Tie as tie
 
@@ -10,5 +10,4 @@ pub set-checked-spec : {M : Type 1} → statement M
 unfolding setChecked
 set-checked-spec =
     tie.close
-    (tie.spec (λ c. search picks) (λ c κs. search needs) (λ c κs. search needs)
-    (λ c κs. search (minimum-below, maximum-below, needs)) (λ c. search picks) (λ c. search picks) (λ c. search picks))
+    (tie.spec (λ c κs. search needs) (λ c. search picks) (λ c κs. search needs) (λ c κs. search needs) (λ c κs. search (minimum-below, maximum-below, needs)) (λ c. search picks) (λ c κs. search needs) (λ c. search picks) (λ c κs. search needs) (λ c. search picks))

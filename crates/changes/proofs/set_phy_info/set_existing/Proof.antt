@@ -1,4 +1,5 @@
 -- `changes::set_phy_info::set_existing` meets its contract. Assumes nothing.
+use Rattle.changes.specs.Laws.{below-set}
 use borrow.Author.Needs.{needs}
 use Rattle.changes.proofs.set_phy_info.set_existing.Statement.{statement}
 use Rattle.changes.proofs.set_phy_info.set_existing.Tie as tie
@@ -6,4 +7,4 @@ use Rattle.changes.proofs.set_phy_info.set_existing.Tie as tie
 pub set-existing-spec : {M : Type 1} → statement M
 set-existing-spec =
     tie.close
-    (tie.spec (λ c κs. search needs) (λ c κs. search needs) (λ c κs. search needs) (λ c. cc))
+    (tie.spec (λ c κs. search needs) (λ c κs. search needs) (λ c κs. search needs) (λ c. (cc, search (below-set, needs))))

@@ -1,12 +1,13 @@
 -- `changes::set_phy_info::set_info` meets its contract. Assumes nothing.
-use borrow.Author.Needs.{needs}
-use Rattle.changes.specs.SetPhyInfo.{setPhyInfo}
+use Rattle.changes.specs.Laws.{below-kept, info-by}
+use Rattle.changes.specs.SetPhyInfo.{phySet}
 use Rattle.laws.specs.Choice.{picks}
+use borrow.Author.Needs.{needs}
 use Rattle.changes.proofs.set_phy_info.set_info.Statement.{statement}
 use Rattle.changes.proofs.set_phy_info.set_info.Tie as tie
 
 pub set-info-spec : {M : Type 1} → statement M
-unfolding setPhyInfo
+unfolding phySet
 set-info-spec =
     tie.close
-    (tie.spec (λ c. search needs) (λ c. search needs) (λ c κs. search needs) (λ c. search picks) (λ c. search picks))
+    (tie.spec (λ c. search needs) (λ c. search needs) (λ c κs. search needs) (λ c. (search (info-by, picks), search needs)) (λ c κs. search needs) (λ c. (search (info-by, picks), search (below-kept, needs))))

@@ -1,6 +1,6 @@
 -- `changes::set_phy_info::set_phy` meets its contract. Assumes nothing.
-use borrow.Author.Needs.{needs}
 use Rattle.changes.specs.SetPhyInfo.{setPhy}
+use borrow.Author.Needs.{needs}
 use Rattle.changes.proofs.set_phy_info.set_phy.Statement.{statement}
 use Rattle.changes.proofs.set_phy_info.set_phy.Tie as tie
 
@@ -8,5 +8,4 @@ pub set-phy-spec : {M : Type 1} → statement M
 unfolding setPhy
 set-phy-spec =
     tie.close
-    (tie.spec (λ c κs. search needs) (λ c κs. search needs) (λ c κs. search needs) (λ c κs. search needs)
-    (λ c κs. search needs) (λ c. cc))
+    (tie.spec (λ c κs. search needs) (λ c κs. search needs) (λ c κs. search needs) (λ c κs. search needs) (λ c κs. search needs) (λ c. cc))

@@ -1,13 +1,10 @@
 -- `dispatch::handle::call_number` meets its contract. Assumes nothing.
+use Rattle.dispatch.specs.Laws.{called}
 use borrow.Author.Needs.{needs}
-use Rattle.dispatch.specs.Request.{callNumber}
-use Rattle.laws.specs.Choice.{picks}
 use Rattle.dispatch.proofs.handle.call_number.Statement.{statement}
 use Rattle.dispatch.proofs.handle.call_number.Tie as tie
 
 pub call-number-spec : {M : Type 1} → statement M
-unfolding callNumber
 call-number-spec =
     tie.close
-    (tie.spec (λ c κs. search needs) (λ c κs. search needs) (λ c. search picks) (λ c. search picks) (λ c. search picks)
-    (λ c. search picks))
+    (tie.spec (λ c κs. search needs) (λ c κs. search needs) (λ c. search (called, needs)))

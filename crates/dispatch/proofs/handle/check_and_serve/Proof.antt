@@ -1,9 +1,9 @@
 -- `dispatch::handle::check_and_serve` meets its contract. Assumes nothing.
-use borrow.Author.Needs.{needs}
-use Rattle.dispatch.specs.Laws.{refused-by}
+use Rattle.dispatch.specs.Laws.{kept-number, refused-by}
 use Rattle.dispatch.specs.Request.{answered}
 use Rattle.header.specs.Laws.{access-room}
 use Rattle.laws.specs.Choice.{picks}
+use borrow.Author.Needs.{needs}
 use Rattle.dispatch.proofs.handle.check_and_serve.Statement.{statement}
 use Rattle.dispatch.proofs.handle.check_and_serve.Tie as tie
 
@@ -11,6 +11,4 @@ pub check-and-serve-spec : {M : Type 1} → statement M
 unfolding answered
 check-and-serve-spec =
     tie.close
-    (tie.spec (λ c κs. search needs)
-    (λ c κs. (search needs, (search needs, (search needs, (search needs, search (access-room, needs))))))
-    (λ c. search needs) (λ c. search needs) (λ c. search picks) (λ c. search needs) (λ c. search (refused-by, picks)))
+    (tie.spec (λ c κs. search needs) (λ c κs. (search needs, (search needs, (search needs, (search needs, search (access-room, needs)))))) (λ c. search needs) (λ c. search needs) (λ c. (search picks, search needs)) (λ c κs. search needs) (λ c. search needs) (λ c. (search (refused-by, picks), search (kept-number, needs))))

@@ -1,9 +1,9 @@
 -- `dispatch::serve::serve` meets its contract. Assumes nothing.
-use borrow.Author.Needs.{needs}
-use Rattle.dispatch.specs.Laws.{room-and-data, changed-by, set-by, passthrough-lent, structure-part}
+use Rattle.dispatch.specs.Laws.{changed-by, passthrough-lent, room-and-data, set-by, structure-part}
 use Rattle.dispatch.specs.Serve.{served}
 use Rattle.header.specs.Table.{structureSize}
 use Rattle.laws.specs.Choice.{picks}
+use borrow.Author.Needs.{needs}
 use Rattle.dispatch.proofs.serve.serve.Statement.{statement}
 use Rattle.dispatch.proofs.serve.serve.Tie as tie
 
@@ -11,8 +11,4 @@ pub serve-spec : {M : Type 1} → statement M
 unfolding served structureSize
 serve-spec =
     tie.close
-    (tie.spec (λ c κs. search (room-and-data, needs)) (λ c. search needs)
-    (λ c. search (changed-by, set-by, picks) depth 9) (λ c κs. search (room-and-data, needs)) (λ c. search needs)
-    (λ c. search (changed-by, set-by, picks) depth 9) (λ c κs. search (passthrough-lent, needs)) (λ c. search needs)
-    (λ c. search needs) (λ c. search (changed-by, set-by, picks) depth 9) (λ c κs. search (structure-part, needs))
-    (λ c. search needs) (λ c. search (changed-by, set-by, picks) depth 9))
+    (tie.spec (λ c κs. search (room-and-data, needs)) (λ c. search needs) (λ c. (search (changed-by, set-by, picks) depth 9, search needs)) (λ c κs. search (room-and-data, needs)) (λ c. search needs) (λ c. (search (changed-by, set-by, picks) depth 9, search needs)) (λ c κs. search (passthrough-lent, needs)) (λ c. search needs) (λ c. search needs) (λ c. (search (changed-by, set-by, picks) depth 9, search needs)) (λ c κs. search (structure-part, needs)) (λ c. search needs) (λ c. (search (changed-by, set-by, picks) depth 9, search needs)))

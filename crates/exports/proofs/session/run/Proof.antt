@@ -3,29 +3,34 @@ use mathlib.Core.Path.{_≡_}
 use Prim.Native.Nat.{_-_, _*_, _≤_}
 use borrow.Author.Needs.{needs}
 use lib.ListN.{length, take, drop}
+use Rattle.dispatch.specs.Request.{stateNumber, stateOf}
+use Rattle.claims.specs.Held.{Sized}
 use Rattle.exports.specs.Session.{ranFrom}
-use Rattle.exports.specs.Laws.{behind, line-lent, request-there, run-starts, run-ends, run-full, run-goes-on}
+use Rattle.exports.specs.Laws.{behind, line-lent, request-there, applied-stored, applied-kept, sized-next, number-next, run-starts, run-ends, run-full, run-goes-on}
 use Rattle.exports.proofs.session.run.Statement.{statement}
 use Rattle.exports.proofs.session.run.Tie as tie
 
 abbrev Inv-loop : tie.InvT-loop
-Inv-loop medium₀ session₀ lines₀ state₀ at₀ count₀ room medium session lines state at count =
+Inv-loop level medium₀ session₀ lines₀ adapter₀ number at₀ count₀ room medium session lines adapter at count =
     (at ≤ length session)
     × (8 * room ≤ length lines)
     × (count ≤ room)
     × (length medium ≡ length medium₀)
     × (length session ≡ length session₀)
     × (length lines ≡ length lines₀)
-    × (ranFrom room state₀ medium₀ session₀ lines₀ ≡ behind count (take at session) (take (8 * count) lines) (ranFrom (room - count) state medium (drop at session) (drop (8 * count) lines)))
+    × (ranFrom room (stateOf level adapter₀) medium₀ session₀ lines₀ ≡ behind count (take at session) (take (8 * count) lines) (ranFrom (room - count) (stateOf level adapter) medium (drop at session) (drop (8 * count) lines)))
+    × (number ≡ stateNumber (stateOf level adapter) (length medium))
+    × Sized adapter
 
 abbrev μ-loop : tie.MeasureT-loop
-μ-loop medium₀ session₀ lines₀ state₀ at₀ count₀ room medium session lines state at count = room - count
+μ-loop level medium₀ session₀ lines₀ adapter₀ number at₀ count₀ room medium session lines adapter at count = room - count
 
 pub run-spec : {M : Type 1} → statement M
 run-spec =
     tie.close
     (tie.spec Inv-loop μ-loop
-    (λ c. (search needs, search needs, search needs, search needs, search needs, search needs, search (run-starts, needs)))
+    (λ c κs. search needs)
+    (λ c. (search needs, search needs, search needs, search needs, search needs, search needs, search (run-starts, needs), search needs, search needs))
     (λ c κs. search needs)
     (λ c. search needs)
     (λ c. search needs)
@@ -39,10 +44,13 @@ run-spec =
     (λ c. search needs)
     (λ c. search needs)
     (λ c. search needs)
-    (λ c κs. search (request-there, line-lent, needs))
     (λ c. search needs)
-    (λ c. search needs)
-    (λ c. (search needs, search needs, search needs, search needs, search needs, search needs, search (run-goes-on, needs)))
+    (λ c κs. (search needs, (search (request-there, needs), search (line-lent, needs))))
+    (λ c κs. search (c .before .before .before .before .before .before .before .handle-sized .ensures .1, needs))
+    (λ c. search (c .before .before .before .before .before .before .before .before .before .before .before .before .before .before .before .before .loop .inv, c .before .before .before .before .before .before .before .before .before .before .before .before .before .before .before .loop-test .taken, c .before .before .before .before .before .before .before .before .before .before .before .before .before .end-from .ensures, c .before .before .before .before .before .before .before .before .before .before .before .before .if1 .left, c .before .before .before .before .before .before .before .before .handle-sized .ensures, c .before .before .before .before .before .before .before .medium .given, c .before .before .before .before .before .session .given, c .before .before .before .lines .given, needs))
+    (λ c. (search (c .before .before .before .before .before .before .before .before .before .before .before .before .before .before .before .before .loop .inv, c .before .before .before .before .before .before .before .before .before .before .before .before .before .before .before .loop-test .taken, c .before .before .before .before .before .before .before .before .before .before .before .before .before .end-from .ensures, c .before .before .before .before .before .before .before .before .before .before .before .before .if1 .left, c .before .before .before .before .before .before .before .before .handle-sized .ensures, c .before .before .before .before .before .before .before .medium .given, c .before .before .before .before .before .session .given, c .before .before .before .lines .given, needs), search (c .before .before .before .before .before .before .before .before .before .before .before .before .before .before .before .before .loop .inv, c .before .before .before .before .before .before .before .before .before .before .before .before .before .before .before .loop-test .taken, c .before .before .before .before .before .before .before .before .before .before .before .before .before .end-from .ensures, c .before .before .before .before .before .before .before .before .before .before .before .before .if1 .left, c .before .before .before .before .before .before .before .before .handle-sized .ensures, c .before .before .before .before .before .before .before .medium .given, c .before .before .before .before .before .session .given, c .before .before .before .lines .given, needs), search (c .before .before .before .before .before .before .before .before .before .before .before .before .before .before .before .before .loop .inv, c .before .before .before .before .before .before .before .before .before .before .before .before .before .before .before .loop-test .taken, c .before .before .before .before .before .before .before .before .before .before .before .before .before .end-from .ensures, c .before .before .before .before .before .before .before .before .before .before .before .before .if1 .left, c .before .before .before .before .before .before .before .before .handle-sized .ensures, c .before .before .before .before .before .before .before .medium .given, c .before .before .before .before .before .session .given, c .before .before .before .lines .given, needs), search (c .before .before .before .before .before .before .before .before .before .before .before .before .before .before .before .before .loop .inv, c .before .before .before .before .before .before .before .before .before .before .before .before .before .before .before .loop-test .taken, c .before .before .before .before .before .before .before .before .before .before .before .before .before .end-from .ensures, c .before .before .before .before .before .before .before .before .before .before .before .before .if1 .left, c .before .before .before .before .before .before .before .before .handle-sized .ensures, c .before .before .before .before .before .before .before .medium .given, c .before .before .before .before .before .session .given, c .before .before .before .lines .given, needs), search (c .before .before .before .before .before .before .before .before .before .before .before .before .before .before .before .before .loop .inv, c .before .before .before .before .before .before .before .before .before .before .before .before .before .before .before .loop-test .taken, c .before .before .before .before .before .before .before .before .before .before .before .before .before .end-from .ensures, c .before .before .before .before .before .before .before .before .before .before .before .before .if1 .left, c .before .before .before .before .before .before .before .before .handle-sized .ensures, c .before .before .before .before .before .before .before .medium .given, c .before .before .before .before .before .session .given, c .before .before .before .lines .given, needs), search (c .before .before .before .before .before .before .before .before .before .before .before .before .before .before .before .before .loop .inv, c .before .before .before .before .before .before .before .before .before .before .before .before .before .before .before .loop-test .taken, c .before .before .before .before .before .before .before .before .before .before .before .before .before .end-from .ensures, c .before .before .before .before .before .before .before .before .before .before .before .before .if1 .left, c .before .before .before .before .before .before .before .before .handle-sized .ensures, c .before .before .before .before .before .before .before .medium .given, c .before .before .before .before .before .session .given, c .before .before .before .lines .given, needs), run-goes-on _ _ _ _ _ _ _ _ (c .before .before .before .before .before .before .before .before .before .before .before .before .before .before .before .before .loop .inv .6) _ (c .before .before .before .before .before .before .before .before .before .before .before .before .before .end-from .ensures .0) (c .before .before .before .before .before .before .before .before .before .before .before .before .if1 .left) (c .before .before .before .before .before .before .before .before .before .before .before .before .before .end-from .ensures .1 .1) (c .before .before .before .before .before .before .before .before .before .before .before .before .before .before .before .before .loop .inv .1) (c .before .before .before .before .before .before .before .before .before .before .before .before .before .before .before .loop-test .taken) _ _ _ _ _ _ (c .before .before .before .before .before .before .before .before .handle-sized .ensures .0) (c .before .before .before .before .before .session .given .0) (applied-stored _ _ _ (c .before .if2 .taken) (c .with-phy .ensures)), number-next _ _ _ _ _ _ _ _ _ (c .before .before .before .before .before .before .before .before .handle-sized .ensures .0) (c .before .before .before .before .before .before .before .before .before .before .before .before .before .before .before .before .loop .inv .8) (applied-stored _ _ _ (c .before .if2 .taken) (c .with-phy .ensures)) _ (c .before .before .before .before .before .before .before .before .before .before .before .before .before .before .before .before .loop .inv .7), sized-next _ _ _ _ _ _ _ _ _ (c .before .before .before .before .before .before .before .before .handle-sized .ensures .0) (c .before .before .before .before .before .before .before .before .before .before .before .before .before .before .before .before .loop .inv .8) (applied-stored _ _ _ (c .before .if2 .taken) (c .with-phy .ensures))))
+    (λ c. search (c .before .before .before .before .before .before .before .before .before .before .before .before .before .before .before .loop .inv, c .before .before .before .before .before .before .before .before .before .before .before .before .before .before .loop-test .taken, c .before .before .before .before .before .before .before .before .before .before .before .before .end-from .ensures, c .before .before .before .before .before .before .before .before .before .before .before .if1 .left, c .before .before .before .before .before .before .before .handle-sized .ensures, c .before .before .before .before .before .before .medium .given, c .before .before .before .before .session .given, c .before .before .lines .given, needs))
+    (λ c. (search (c .before .before .before .before .before .before .before .before .before .before .before .before .before .before .before .loop .inv, c .before .before .before .before .before .before .before .before .before .before .before .before .before .before .loop-test .taken, c .before .before .before .before .before .before .before .before .before .before .before .before .end-from .ensures, c .before .before .before .before .before .before .before .before .before .before .before .if1 .left, c .before .before .before .before .before .before .before .handle-sized .ensures, c .before .before .before .before .before .before .medium .given, c .before .before .before .before .session .given, c .before .before .lines .given, needs), search (c .before .before .before .before .before .before .before .before .before .before .before .before .before .before .before .loop .inv, c .before .before .before .before .before .before .before .before .before .before .before .before .before .before .loop-test .taken, c .before .before .before .before .before .before .before .before .before .before .before .before .end-from .ensures, c .before .before .before .before .before .before .before .before .before .before .before .if1 .left, c .before .before .before .before .before .before .before .handle-sized .ensures, c .before .before .before .before .before .before .medium .given, c .before .before .before .before .session .given, c .before .before .lines .given, needs), search (c .before .before .before .before .before .before .before .before .before .before .before .before .before .before .before .loop .inv, c .before .before .before .before .before .before .before .before .before .before .before .before .before .before .loop-test .taken, c .before .before .before .before .before .before .before .before .before .before .before .before .end-from .ensures, c .before .before .before .before .before .before .before .before .before .before .before .if1 .left, c .before .before .before .before .before .before .before .handle-sized .ensures, c .before .before .before .before .before .before .medium .given, c .before .before .before .before .session .given, c .before .before .lines .given, needs), search (c .before .before .before .before .before .before .before .before .before .before .before .before .before .before .before .loop .inv, c .before .before .before .before .before .before .before .before .before .before .before .before .before .before .loop-test .taken, c .before .before .before .before .before .before .before .before .before .before .before .before .end-from .ensures, c .before .before .before .before .before .before .before .before .before .before .before .if1 .left, c .before .before .before .before .before .before .before .handle-sized .ensures, c .before .before .before .before .before .before .medium .given, c .before .before .before .before .session .given, c .before .before .lines .given, needs), search (c .before .before .before .before .before .before .before .before .before .before .before .before .before .before .before .loop .inv, c .before .before .before .before .before .before .before .before .before .before .before .before .before .before .loop-test .taken, c .before .before .before .before .before .before .before .before .before .before .before .before .end-from .ensures, c .before .before .before .before .before .before .before .before .before .before .before .if1 .left, c .before .before .before .before .before .before .before .handle-sized .ensures, c .before .before .before .before .before .before .medium .given, c .before .before .before .before .session .given, c .before .before .lines .given, needs), search (c .before .before .before .before .before .before .before .before .before .before .before .before .before .before .before .loop .inv, c .before .before .before .before .before .before .before .before .before .before .before .before .before .before .loop-test .taken, c .before .before .before .before .before .before .before .before .before .before .before .before .end-from .ensures, c .before .before .before .before .before .before .before .before .before .before .before .if1 .left, c .before .before .before .before .before .before .before .handle-sized .ensures, c .before .before .before .before .before .before .medium .given, c .before .before .before .before .session .given, c .before .before .lines .given, needs), run-goes-on _ _ _ _ _ _ _ _ (c .before .before .before .before .before .before .before .before .before .before .before .before .before .before .before .loop .inv .6) _ (c .before .before .before .before .before .before .before .before .before .before .before .before .end-from .ensures .0) (c .before .before .before .before .before .before .before .before .before .before .before .if1 .left) (c .before .before .before .before .before .before .before .before .before .before .before .before .end-from .ensures .1 .1) (c .before .before .before .before .before .before .before .before .before .before .before .before .before .before .before .loop .inv .1) (c .before .before .before .before .before .before .before .before .before .before .before .before .before .before .loop-test .taken) _ _ _ _ _ _ (c .before .before .before .before .before .before .before .handle-sized .ensures .0) (c .before .before .before .before .session .given .0) (applied-kept _ _ (c .if2 .left)), number-next _ _ _ _ _ _ _ _ _ (c .before .before .before .before .before .before .before .handle-sized .ensures .0) (c .before .before .before .before .before .before .before .before .before .before .before .before .before .before .before .loop .inv .8) (applied-kept _ _ (c .if2 .left)) _ (c .before .before .before .before .before .before .before .before .before .before .before .before .before .before .before .loop .inv .7), sized-next _ _ _ _ _ _ _ _ _ (c .before .before .before .before .before .before .before .handle-sized .ensures .0) (c .before .before .before .before .before .before .before .before .before .before .before .before .before .before .before .loop .inv .8) (applied-kept _ _ (c .if2 .left))))
     (λ c. search needs)
     (λ c. search needs)
     (λ c. search needs)

@@ -1,0 +1,12 @@
+-- `changes::apply` meets its contract. Assumes nothing.
+use Rattle.changes.specs.Changed.{applied}
+use Rattle.laws.specs.Choice.{picks}
+use borrow.Author.Needs.{needs}
+use Rattle.changes.proofs.apply.Statement.{statement}
+use Rattle.changes.proofs.apply.Tie as tie
+
+pub apply-spec : {M : Type 1} → statement M
+unfolding applied
+apply-spec =
+    tie.close
+    (tie.spec (λ c κs. search needs) (λ c. search picks) (λ c. search picks))

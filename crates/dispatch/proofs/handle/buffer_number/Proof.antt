@@ -1,0 +1,11 @@
+-- `dispatch::handle::buffer_number` meets its contract. Assumes nothing.
+use Rattle.dispatch.specs.Request.{bufferNumber}
+use Rattle.laws.specs.Choice.{picks}
+use Rattle.dispatch.proofs.handle.buffer_number.Statement.{statement}
+use Rattle.dispatch.proofs.handle.buffer_number.Tie as tie
+
+pub buffer-number-spec : {M : Type 1} → statement M
+unfolding bufferNumber
+buffer-number-spec =
+    tie.close
+    (tie.spec (λ c. search picks) (λ c. search picks) (λ c. search picks))

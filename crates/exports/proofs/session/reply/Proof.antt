@@ -1,0 +1,10 @@
+-- `exports::session::reply` meets its contract. Assumes nothing.
+use Rattle.exports.specs.Laws.{replied-left}
+use borrow.Author.Needs.{needs}
+use Rattle.exports.proofs.session.reply.Statement.{statement}
+use Rattle.exports.proofs.session.reply.Tie as tie
+
+pub reply-spec : {M : Type 1} → statement M
+reply-spec =
+    tie.close
+    (tie.spec (λ c κs. search needs) (λ c κs. search needs) (λ c κs. search needs) (λ c. search needs) (λ c. search needs) (λ c. search needs) (λ c. (search (replied-left, needs), search needs)))

@@ -1,0 +1,86 @@
+//! The time of a session on each side.
+
+use crate::workload::{self, Kind};
+use differential::compare::compare;
+use differential::names::call;
+use differential::need;
+use differential::side::{Case, Side, SIDES};
+use std::time::{Duration, Instant};
+
+/// Requests in a measured session.
+pub const REQUESTS: usize = 2000;
+const REPETITIONS: usize = 15;
+
+/// The median time of a session, by side.
+#[derive(Clone, Copy)]
+pub struct Times {
+    pub library: Duration,
+    pub model: Duration,
+}
+
+/// Fresh copies of what a run writes.
+pub struct Copies {
+    medium: Vec<u8>,
+    session: Vec<u8>,
+    record: Vec<u8>,
+}
+
+impl Copies {
+    pub fn of(case: &Case) -> Self {
+        Copies {
+            medium: case.medium.clone(),
+            session: case.session.clone(),
+            record: case.record.clone(),
+        }
+    }
+}
+
+/// The measured part: an opening and the requests of a session.
+#[inline(never)]
+pub fn measured(side: Side, case: &Case, copies: &mut Copies) -> usize {
+    side.run_in_place(
+        &case.text,
+        &case.file,
+        &mut copies.medium,
+        &mut copies.session,
+        &mut copies.record,
+    )
+}
+
+/// Both sides on a session, in turn, so that a slower moment of the machine meets both.
+pub fn times(case: &Case) -> Times {
+    let mut all = [Vec::new(), Vec::new()];
+    for _ in 0..REPETITIONS {
+        for (side, times) in SIDES.into_iter().zip(&mut all) {
+            times.push(time(side, case));
+        }
+    }
+    let [library, model] = all.map(median);
+    Times { library, model }
+}
+
+fn time(side: Side, case: &Case) -> Duration {
+    let mut copies = Copies::of(case);
+    let start = Instant::now();
+    let handled = measured(side, case, &mut copies);
+    let time = start.elapsed();
+    std::hint::black_box((handled, copies));
+    time
+}
+
+fn median(mut times: Vec<Duration>) -> Duration {
+    times.sort();
+    times[times.len() / 2]
+}
+
+/// A session that both sides answer alike, with every request granted, or, where there are no rows, answered.
+pub fn checked(kind: Kind, p: usize, a: usize, requests: usize) -> Case {
+    let case = workload::case(kind, p, a, requests);
+    let outcome = compare(&case).unwrap_or_else(|difference| panic!("{difference}"));
+    let exchanges = case.exchanges(&outcome);
+    assert!(exchanges
+        .iter()
+        .all(|exchange| exchange.number == call::ACCEPTED));
+    assert!(a == 0 || exchanges.iter().all(need::granted));
+    case
+}

@@ -1,0 +1,109 @@
+//! What is measured: an adapter of which every phy is connected, and sessions of granted requests.
+
+use differential::adapter::phy::Phy;
+use differential::adapter::Adapter;
+use differential::names::{code, phy, stp};
+use differential::random::Random;
+use differential::request::passthrough::Passthrough;
+use differential::request::{self, fis};
+use differential::side::Case;
+
+#[derive(Clone, Copy, PartialEq, Eq)]
+pub enum Kind {
+    /// No requests: the opening alone.
+    Opening,
+    Code(u32),
+    Command(u8),
+    Mixed,
+}
+
+pub const SESSIONS: [(&str, Kind); 12] = [
+    ("opening", Kind::Opening),
+    ("driver-info", Kind::Code(code::DRIVER_INFO)),
+    ("phy-info", Kind::Code(code::PHY_INFO)),
+    ("set-phy-info", Kind::Code(code::SET_PHY_INFO)),
+    ("link-errors", Kind::Code(code::LINK_ERRORS)),
+    ("read", Kind::Command(stp::READ)),
+    ("write", Kind::Command(stp::WRITE)),
+    ("identify", Kind::Command(stp::IDENTIFY)),
+    ("signature", Kind::Code(code::SATA_SIGNATURE)),
+    ("scsi-address", Kind::Code(code::SCSI_ADDRESS)),
+    ("device-address", Kind::Code(code::DEVICE_ADDRESS)),
+    ("mixed", Kind::Mixed),
+];
+
+/// The counts p and a that are measured.
+pub const SIZES: [(usize, usize); 4] = [(7, 0), (7, 64), (32, 0), (32, 64)];
+
+pub fn kind(name: &str) -> Option<Kind> {
+    let mut sessions = SESSIONS.iter();
+    sessions
+        .find(|session| session.0 == name)
+        .map(|session| session.1)
+}
+
+/// A session of so many requests at level Full.
+pub fn case(kind: Kind, p: usize, a: usize, requests: usize) -> Case {
+    let random = &mut Random::new(7);
+    let adapter = connected(random, p, a);
+    let count = if kind == Kind::Opening { 0 } else { requests };
+    let list: Vec<Vec<u8>> = (0..count)
+        .map(|_| granted(random, &adapter, kind))
+        .collect();
+    let medium = random.bytes(adapter.medium_length());
+    Case::of_requests(0, b"CSMI=Full;", &adapter.file(), &medium, &list)
+}
+
+/// An adapter whose phys all have a SATA disk at 3.0 Gb/s, a signature, and rates that may be changed.
+fn connected(random: &mut Random, p: usize, a: usize) -> Adapter {
+    let mut adapter = Adapter::of_counts(random, p, a);
+    for phy in &mut adapter.phys {
+        connect(random, phy);
+    }
+    adapter
+}
+
+fn connect(random: &mut Random, phy: &mut Phy) {
+    let bytes = &mut phy.bytes;
+    random.fill(&mut bytes[phy::ATTACHED..phy::ENTITY_SIZE]);
+    bytes[phy::ATTACHED_TYPE] = phy::END_DEVICE;
+    bytes[phy::ATTACHED_PROTOCOLS] |= 1;
+    (bytes[phy::MINIMUM], bytes[phy::MAXIMUM]) = (0x88, 0x99);
+    (bytes[phy::LOWEST], bytes[phy::HIGHEST]) = (8, 9);
+    bytes[phy::NEGOTIATED] = 9;
+    random.fill(&mut bytes[phy::SIGNATURE..phy::HELD]);
+    (bytes[phy::HELD], bytes[phy::FIXED]) = (1, 0);
+}
+
+/// A request that is granted; of the two address codes, only if there are rows.
+fn granted(random: &mut Random, adapter: &Adapter, kind: Kind) -> Vec<u8> {
+    match kind {
+        Kind::Code(code::SET_PHY_INFO) => set_phy_info(random, adapter),
+        Kind::Code(control) => request::sound(random, adapter, control),
+        Kind::Command(command) => passthrough(random, adapter, command),
+        Kind::Mixed | Kind::Opening => {
+            let one = SESSIONS[random.within(1, SESSIONS.len() - 2)].1;
+            granted(random, adapter, one)
+        }
+    }
+}
+
+/// Enables a phy with rates that keep it connected.
+fn set_phy_info(random: &mut Random, adapter: &Adapter) -> Vec<u8> {
+    let phy = random.below(adapter.phys.len()) as u8;
+    let (minimum, maximum) = random.pick(&[(8, 9), (0, 9), (8, 0), (0, 0), (8, 8)]);
+    let class = random.below(4) as u8;
+    request::buffer(
+        code::SET_PHY_INFO,
+        &[phy, 0, minimum, maximum, class, 0, 0, 0],
+    )
+}
+
+/// One sector, anywhere on the disk, at a rate that every link has.
+fn passthrough(random: &mut Random, adapter: &Adapter, command: u8) -> Vec<u8> {
+    let lba = random.below(16) as u32;
+    let fis = fis::command(random, command, lba, 1);
+    let mut passthrough = Passthrough::of_fis(random, adapter, fis);
+    passthrough.rate = 8;
+    request::buffer(code::STP_PASSTHRU, &passthrough.body(random))
+}

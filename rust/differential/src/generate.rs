@@ -1,0 +1,100 @@
+//! Whole cases from a seed.
+
+use crate::adapter::{damage, Adapter};
+use crate::medium;
+use crate::random::Random;
+use crate::request;
+use crate::session;
+use crate::side::Case;
+use crate::text::{self, FULL, LIMITED, NONE, RESTRICTED};
+
+/// An opening: what the two calls start from.
+pub struct Opening {
+    pub text: Vec<u8>,
+    pub file: Vec<u8>,
+    pub medium: Vec<u8>,
+}
+
+/// A level; Full is the most frequent, since it grants the most.
+fn any_level(random: &mut Random) -> u8 {
+    random.pick(&[
+        NONE, RESTRICTED, RESTRICTED, LIMITED, FULL, FULL, FULL, FULL,
+    ])
+}
+
+/// An opening that is accepted.
+pub fn sound_opening(random: &mut Random, adapter: &Adapter) -> Opening {
+    let level = any_level(random);
+    Opening {
+        text: text::of_level(random, level),
+        file: adapter.file(),
+        medium: random.bytes(adapter.medium_length()),
+    }
+}
+
+/// An opening with one fault, sometimes with more.
+pub fn damaged_opening(random: &mut Random, adapter: &Adapter) -> Opening {
+    let mut opening = sound_opening(random, adapter);
+    loop {
+        match random.below(8) {
+            0 => opening.text = text::damaged(random),
+            1 => opening.text = text::changed(random),
+            2 => opening.medium = medium::of_wrong_length(random, adapter.phys.len()),
+            _ => opening.file = damaged_file(random, adapter),
+        }
+        if !random.one_in(4) {
+            return opening;
+        }
+    }
+}
+
+fn damaged_file(random: &mut Random, adapter: &Adapter) -> Vec<u8> {
+    loop {
+        let damage = &damage::ALL[random.below(damage::ALL.len())];
+        let file = if random.one_in(4) {
+            damage.unsealed(random, adapter)
+        } else {
+            damage.file(random, adapter)
+        };
+        if let Some(file) = file {
+            return file;
+        }
+    }
+}
+
+/// A list of requests for an adapter.
+pub fn requests(random: &mut Random, adapter: &Adapter, count: usize) -> Vec<Vec<u8>> {
+    (0..count).map(|_| request::any(random, adapter)).collect()
+}
+
+/// A case: an opening, which is damaged one time in eight, a session of up to so many requests, with any end, and a record.
+pub fn case(seed: u64, most: usize) -> Case {
+    let random = &mut Random::new(seed);
+    let adapter = Adapter::sound(random);
+    let opening = if random.one_in(8) {
+        damaged_opening(random, &adapter)
+    } else {
+        sound_opening(random, &adapter)
+    };
+    let count = random.within(0, most);
+    let mut session = session::join(&requests(random, &adapter, count));
+    session.extend(session::end(random));
+    let record = record_length(random, count);
+    Case {
+        seed,
+        text: opening.text,
+        file: opening.file,
+        medium: opening.medium,
+        session,
+        record: random.bytes(record),
+    }
+}
+
+/// Mostly enough for every request, and bytes to spare; sometimes short.
+fn record_length(random: &mut Random, count: usize) -> usize {
+    match random.below(8) {
+        0 => random.below(8 * count + 1),
+        1 => 8 * count,
+        _ => 8 * count + random.within(1, 20),
+    }
+}

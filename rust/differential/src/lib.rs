@@ -1,0 +1,20 @@
+//! Compares the proved library with the model on generated openings and sessions, and tests both against the claims of
+//! document 01 about whole runs. Every input comes from a seed.
+
+pub mod adapter;
+pub mod compare;
+pub mod coverage;
+pub mod generate;
+pub mod last_writer;
+pub mod medium;
+pub mod names;
+pub mod need;
+pub mod probe;
+pub mod random;
+pub mod request;
+pub mod session;
+pub mod side;
+pub mod sweep;
+pub mod text;
+pub mod two_runs;
+pub mod wire;

@@ -1,0 +1,62 @@
+//! The bodies of sound requests. Addresses, phys and rows are mostly the adapter's own.
+
+use super::passthrough::Passthrough;
+use crate::adapter::row::OS;
+use crate::adapter::Adapter;
+use crate::names::{body_size, code};
+use crate::random::Random;
+
+pub fn body(random: &mut Random, adapter: &Adapter, control: u32) -> Vec<u8> {
+    if control == code::STP_PASSTHRU {
+        return Passthrough::sound(random, adapter).body(random);
+    }
+    let mut body = random.bytes(body_size(control).unwrap_or(0));
+    match control {
+        code::SET_PHY_INFO => set_phy_info(random, adapter, &mut body),
+        code::LINK_ERRORS => {
+            body[0] = phy(random, adapter);
+            body[1] = random.below(2) as u8;
+        }
+        code::SATA_SIGNATURE => body[0] = phy(random, adapter),
+        code::SCSI_ADDRESS => scsi_address(random, adapter, &mut body),
+        code::DEVICE_ADDRESS => device_address(random, adapter, &mut body),
+        _ => {}
+    }
+    body
+}
+
+/// A phy of the adapter.
+fn phy(random: &mut Random, adapter: &Adapter) -> u8 {
+    random.below(adapter.phys.len()) as u8
+}
+
+fn set_phy_info(random: &mut Random, adapter: &Adapter, body: &mut [u8]) {
+    body[0] = phy(random, adapter);
+    body[1] = u8::from(random.one_in(6));
+    (body[2], body[3]) = random.pick(&[
+        (0, 0),
+        (8, 9),
+        (8, 9),
+        (8, 8),
+        (9, 9),
+        (0, 9),
+        (8, 0),
+        (0, 8),
+        (9, 0),
+    ]);
+    body[4] = random.below(4) as u8;
+}
+
+fn scsi_address(random: &mut Random, adapter: &Adapter, body: &mut [u8]) {
+    if !adapter.rows.is_empty() {
+        let row = random.pick(&adapter.rows);
+        body[..OS].copy_from_slice(&row[..OS]);
+    }
+}
+
+fn device_address(random: &mut Random, adapter: &Adapter, body: &mut [u8]) {
+    if !adapter.rows.is_empty() {
+        let row = random.pick(&adapter.rows);
+        body[..4].copy_from_slice(&row[OS..]);
+    }
+}

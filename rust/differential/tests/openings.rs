@@ -1,0 +1,193 @@
+//! Openings of both implementations, with the numbers that document 01 gives them.
+
+use differential::adapter::damage::{Damage, ALL};
+use differential::adapter::{seal, Adapter};
+use differential::generate;
+use differential::names::call;
+use differential::random::Random;
+use differential::side::{Side, SIDES};
+use differential::{medium, sweep, text};
+
+/// Both sides open with this number.
+fn assert_number(what: &str, number: u32, text: &[u8], file: &[u8], medium: &[u8]) {
+    for side in SIDES {
+        let given = side.open(text, file, medium);
+        assert_eq!(given, number, "{what}, {side:?}");
+    }
+}
+
+/// An adapter that has a place for the damage, and its file.
+fn damaged(random: &mut Random, damage: &Damage) -> (Adapter, Vec<u8>) {
+    for _ in 0..1000 {
+        let adapter = Adapter::sound(random);
+        if let Some(file) = damage.file(random, &adapter) {
+            return (adapter, file);
+        }
+    }
+    panic!("no adapter has a place for: {}", damage.name);
+}
+
+#[test]
+fn sound_files_of_every_size_open() {
+    let random = &mut Random::new(1);
+    for p in 1..=32 {
+        for a in [0, 1, 24, 25, 26, 50, 51, 64] {
+            let adapter = Adapter::of_counts(random, p, a);
+            let medium = vec![0; adapter.medium_length()];
+            assert_number("sound", call::ACCEPTED, b"", &adapter.file(), &medium);
+        }
+    }
+}
+
+#[test]
+fn each_rule_broken_alone() {
+    let random = &mut Random::new(2);
+    for damage in ALL {
+        for _ in 0..40 {
+            let (adapter, file) = damaged(random, damage);
+            let medium = vec![0; adapter.medium_length()];
+            assert_number(damage.name, damage.number, b"CSMI=Full;", &file, &medium);
+        }
+    }
+}
+
+#[test]
+fn damage_with_the_checks_left_is_answered_alike() {
+    let random = &mut Random::new(3);
+    let mut checks = 0;
+    for damage in ALL {
+        for _ in 0..20 {
+            let adapter = Adapter::sound(random);
+            let Some(file) = damage.unsealed(random, &adapter) else {
+                continue;
+            };
+            let medium = vec![0; adapter.medium_length()];
+            let number = Side::Library.open(b"", &file, &medium);
+            assert_eq!(
+                number,
+                Side::Model.open(b"", &file, &medium),
+                "{}",
+                damage.name
+            );
+            checks += usize::from(number == call::BLOCK_CHECK);
+        }
+    }
+    assert!(checks > 300, "only {checks} files were refused by a check");
+}
+
+#[test]
+fn the_text_comes_first_and_the_medium_last() {
+    let random = &mut Random::new(4);
+    for damage in ALL {
+        let (adapter, file) = damaged(random, damage);
+        let wrong_text = text::damaged(random);
+        let wrong_medium = medium::of_wrong_length(random, adapter.phys.len());
+        assert_number(damage.name, call::TEXT, &wrong_text, &file, &wrong_medium);
+        assert_number(damage.name, damage.number, b"", &file, &wrong_medium);
+        assert_number(
+            "medium",
+            call::MEDIUM_LENGTH,
+            b"",
+            &adapter.file(),
+            &wrong_medium,
+        );
+    }
+}
+
+/// The first of two damages in the order of the opening's checks decides.
+#[test]
+fn checks_come_before_fields_and_fields_before_rows() {
+    let random = &mut Random::new(5);
+    for _ in 0..200 {
+        let adapter = Adapter::of_counts(random, 3, 30);
+        let medium = vec![0; adapter.medium_length()];
+        let mut file = adapter.file();
+        let (phy, first, second) = (512 * 3, 512 * 4, 512 * 5);
+        file.copy_within(first..first + 16, second);
+        seal(&mut file);
+        assert_number("rows", call::SHARED_ROW, b"", &file, &medium);
+        file[3] = 1;
+        seal(&mut file);
+        assert_number("unnamed byte and rows", call::FIELD, b"", &file, &medium);
+        file[3] = 0;
+        file[phy + 101] = 2;
+        seal(&mut file);
+        assert_number("field and rows", call::FIELD, b"", &file, &medium);
+        file[second + 508] ^= 1;
+        assert_number(
+            "check, field and rows",
+            call::BLOCK_CHECK,
+            b"",
+            &file,
+            &medium,
+        );
+        file.truncate(512 * 5);
+        assert_number("length and all", call::FILE_LENGTH, b"", &file, &medium);
+        file[0] = 33;
+        seal(&mut file);
+        assert_number("count and all", call::FIELD, b"", &file, &medium);
+        file[3] ^= 1;
+        assert_number(
+            "block 0's check and all",
+            call::BLOCK_CHECK,
+            b"",
+            &file,
+            &medium,
+        );
+        file.truncate(511);
+        assert_number("under one block", call::FILE_LENGTH, b"", &file, &medium);
+    }
+}
+
+#[test]
+fn texts_are_answered_alike() {
+    let random = &mut Random::new(6);
+    let file = Adapter::of_counts(random, 1, 0).file();
+    let medium = vec![0; 8192];
+    for round in 0..6000 {
+        let level = text::LEVELS[round % 4];
+        assert_number(
+            "text",
+            call::ACCEPTED,
+            &text::of_level(random, level),
+            &file,
+            &medium,
+        );
+        assert_number("text", call::TEXT, &text::damaged(random), &file, &medium);
+        let changed = text::changed(random);
+        let number = Side::Model.open(&changed, &file, &medium);
+        assert_number("changed text", number, &changed, &file, &medium);
+    }
+}
+
+#[test]
+fn thousands_of_damaged_openings_are_answered_alike() {
+    let random = &mut Random::new(7);
+    let mut refused = 0;
+    for round in 0..4000 {
+        let adapter = Adapter::sound(random);
+        let opening = generate::damaged_opening(random, &adapter);
+        let number = Side::Model.open(&opening.text, &opening.file, &opening.medium);
+        assert_number(
+            &format!("round {round}"),
+            number,
+            &opening.text,
+            &opening.file,
+            &opening.medium,
+        );
+        refused += usize::from(number != call::ACCEPTED);
+    }
+    assert!(refused > 3600, "only {refused} openings were refused");
+}
+
+#[test]
+fn single_bytes_of_a_file_damaged() {
+    let sweep = sweep::run(8, 2, 3, 29);
+    assert_eq!(
+        sweep.differences.len(),
+        0,
+        "{:?}",
+        sweep.differences.first()
+    );
+    assert!(sweep.openings > 30_000 && sweep.accepted > 3000);
+}

@@ -1,0 +1,150 @@
+//! "Two runs and the last writer" of document 01, on both implementations.
+
+use differential::adapter::Adapter;
+use differential::names::call;
+use differential::random::Random;
+use differential::side::{Case, Side, SIDES};
+use differential::two_runs::{check, check_states, only_return_code, Level, Start};
+use differential::{generate, last_writer, probe, text};
+
+/// Every pair of levels, the lower at most the higher.
+fn pairs() -> Vec<(u8, u8)> {
+    let all = text::LEVELS
+        .iter()
+        .flat_map(|&low| text::LEVELS.map(|high| (low, high)));
+    all.filter(|(low, high)| low <= high).collect()
+}
+
+/// The file of an adapter, damaged or not, and a medium.
+fn file_and_medium(random: &mut Random, adapter: &Adapter) -> (Vec<u8>, Vec<u8>) {
+    let opening = if random.one_in(12) {
+        generate::damaged_opening(random, adapter)
+    } else {
+        generate::sound_opening(random, adapter)
+    };
+    (opening.file, opening.medium)
+}
+
+/// The claim for a pair of levels, on both sides; gives the number of denied requests.
+fn two_runs(seed: u64, low: u8, high: u8, count: usize) -> usize {
+    let random = &mut Random::new(seed);
+    let adapter = Adapter::sound(random);
+    let (file, medium) = file_and_medium(random, &adapter);
+    let start = Start {
+        seed,
+        adapter: &adapter,
+        file: &file,
+        medium: &medium,
+        requests: &generate::requests(random, &adapter, count),
+    };
+    let low = Level::of_number(random, low);
+    let high = Level::of_number(random, high);
+    check_states(&start, &low, &high).unwrap_or_else(|what| panic!("seed {seed}: {what}"));
+    let denied = SIDES.map(|side| {
+        check(side, &start, &low, &high)
+            .unwrap_or_else(|what| panic!("seed {seed}, {side:?}: {what}"))
+    });
+    assert_eq!(denied[0], denied[1]);
+    denied[0]
+}
+
+#[test]
+fn two_runs_of_each_pair_of_levels() {
+    assert_eq!(pairs().len(), 10);
+    for (low, high) in pairs() {
+        let seeds = (0..12).map(|round| 1000 * u64::from(4 * low + high) + round);
+        let counts = [0, 1, 40, 120].into_iter().cycle();
+        let denied: usize = seeds
+            .zip(counts)
+            .map(|(seed, count)| two_runs(seed, low, high, count))
+            .sum();
+        assert_eq!(
+            denied > 50,
+            low < text::FULL,
+            "{denied} denied at level {low}"
+        );
+    }
+}
+
+/// Level None denies every sound request: nothing but return codes changes, on both sides.
+#[test]
+fn denied_requests_change_only_their_return_code() {
+    for seed in 0..40 {
+        let random = &mut Random::new(seed);
+        let adapter = Adapter::sound(random);
+        let medium = random.bytes(adapter.medium_length());
+        let requests: Vec<Vec<u8>> = (0..40)
+            .map(|_| {
+                let control = differential::request::any_code(random);
+                differential::request::sound(random, &adapter, control)
+            })
+            .collect();
+        let case = Case::of_requests(seed, b"CSMI=None;", &adapter.file(), &medium, &requests);
+        for side in SIDES {
+            let outcome = side.run(&case);
+            assert!(outcome.medium == case.medium, "seed {seed}, {side:?}");
+            for exchange in case.exchanges(&outcome) {
+                let right = only_return_code(&exchange);
+                assert_eq!(right, Ok(()), "seed {seed}, {side:?}");
+            }
+        }
+    }
+}
+
+#[test]
+fn the_last_writer_of_each_sector_and_rate() {
+    let mut phys = 0;
+    let mut written = 0;
+    for seed in 0..240 {
+        let random = &mut Random::new(seed);
+        let adapter = Adapter::sound(random);
+        let (file, medium) = file_and_medium(random, &adapter);
+        let number = text::LEVELS[if seed % 8 < 4 { seed as usize % 4 } else { 3 }];
+        let text = text::of_level(random, number);
+        let mut requests = generate::requests(random, &adapter, 100);
+        requests.push(probe::phy_info());
+        let case = Case::of_requests(seed, &text, &file, &medium, &requests);
+        for side in SIDES {
+            let outcome = side.run(&case);
+            let report = |what: String| panic!("seed {seed}, {side:?}: {what}");
+            last_writer::check_medium(&case, &outcome).unwrap_or_else(report);
+            phys += last_writer::check_rates(&case, &outcome)
+                .unwrap_or_else(|what| panic!("seed {seed}, {side:?}: {what}"));
+            written += usize::from(outcome.medium != case.medium);
+            if side == Side::Model {
+                last_writer::check_model_rates(&case, &outcome, &requests).unwrap_or_else(report);
+            }
+        }
+    }
+    assert!(phys > 2000, "the rates of only {phys} phys were compared");
+    assert!(written > 200, "only {written} runs wrote a sector");
+}
+
+#[test]
+fn after_a_refused_opening_the_medium_stays() {
+    let mut refused = 0;
+    for seed in 0..80 {
+        let random = &mut Random::new(seed);
+        let adapter = Adapter::sound(random);
+        let opening = generate::damaged_opening(random, &adapter);
+        let requests = generate::requests(random, &adapter, 20);
+        let case = Case::of_requests(
+            seed,
+            &opening.text,
+            &opening.file,
+            &opening.medium,
+            &requests,
+        );
+        for side in SIDES {
+            let outcome = side.run(&case);
+            if outcome.opening != call::ACCEPTED {
+                refused += 1;
+                assert!(
+                    outcome.medium == case.medium && outcome.session == case.session,
+                    "seed {seed}, {side:?}"
+                );
+            }
+        }
+    }
+    assert!(refused > 100, "only {refused} openings were refused");
+}

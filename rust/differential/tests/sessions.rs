@@ -1,0 +1,353 @@
+//! Sessions through both implementations: every number, every return code and every byte.
+
+use differential::adapter::Adapter;
+use differential::compare::compare;
+use differential::coverage::Coverage;
+use differential::names::{call, header, phy, status, LONGEST};
+use differential::random::Random;
+use differential::request::passthrough::Passthrough;
+use differential::request::{self, fis};
+use differential::session::{join, oversized};
+use differential::side::{Case, Outcome};
+use differential::wire::{put_word, word};
+use differential::{generate, names, need, text};
+
+/// What both give for a case.
+fn agreed(case: &Case) -> Outcome {
+    compare(case).unwrap_or_else(|difference| panic!("{difference}"))
+}
+
+/// A case of sound requests at a level, one code after the other.
+fn sound_case(seed: u64, level: u8, count: usize) -> Case {
+    let random = &mut Random::new(seed);
+    let adapter = Adapter::of_counts(random, 4, 5);
+    let requests: Vec<Vec<u8>> = (0..count)
+        .map(|n| request::sound(random, &adapter, names::code::ALL[n % 8]))
+        .collect();
+    let text = text::of_level(random, level);
+    let medium = random.bytes(adapter.medium_length());
+    Case::of_requests(seed, &text, &adapter.file(), &medium, &requests)
+}
+
+/// Every command at a level, once within the disk and once near an end.
+fn every_command(seed: u64, level: u8) -> Case {
+    let random = &mut Random::new(seed);
+    let adapter = Adapter::of_counts(random, 6, 0);
+    let mut requests = Vec::new();
+    for command in 0..=255 {
+        for (lba, count) in [(3, 2), fis::edge(random)] {
+            let fis = fis::command(random, command, lba, count);
+            let body = Passthrough::of_fis(random, &adapter, fis).body(random);
+            requests.push(request::buffer(names::code::STP_PASSTHRU, &body));
+        }
+    }
+    let text = text::of_level(random, level);
+    let medium = random.bytes(adapter.medium_length());
+    Case::of_requests(seed, &text, &adapter.file(), &medium, &requests)
+}
+
+/// Some 20,000 requests over more than a thousand adapters, texts and openings; each number and return code of document 01 is met, with
+/// each code that can give it, and none besides.
+#[test]
+fn random_runs_agree_and_meet_everything() {
+    let mut coverage = Coverage::default();
+    for seed in 0..1400 {
+        let case = generate::case(seed, 30);
+        coverage.count(&case, &agreed(&case));
+    }
+    for level in text::LEVELS {
+        for seed in 0..2 {
+            let case = every_command(seed, level);
+            coverage.count(&case, &agreed(&case));
+        }
+    }
+    println!("{coverage}");
+    assert!(
+        coverage.requests > 20_000,
+        "only {} requests",
+        coverage.requests
+    );
+    assert_eq!(coverage.missing(), Vec::<String>::new());
+    assert_eq!(coverage.unknown(), Vec::<String>::new());
+}
+
+#[test]
+fn each_code_and_length_agrees() {
+    let random = &mut Random::new(11);
+    let adapter = Adapter::of_counts(random, 3, 4);
+    for control in names::code::ALL {
+        let sound = request::sound(random, &adapter, control);
+        let lengths =
+            (0..sound.len().min(300)).chain([sound.len() - 1, sound.len(), sound.len() + 1]);
+        let requests: Vec<Vec<u8>> = lengths.map(|length| resized(&sound, length)).collect();
+        let medium = random.bytes(adapter.medium_length());
+        let case = Case::of_requests(
+            u64::from(control),
+            b"CSMI=Full;",
+            &adapter.file(),
+            &medium,
+            &requests,
+        );
+        let outcome = agreed(&case);
+        let exchanges = case.exchanges(&outcome);
+        assert_eq!(exchanges.len(), requests.len());
+        for (exchange, request) in exchanges.iter().zip(&requests) {
+            let short = request.len() < header::SIZE;
+            assert_eq!(
+                exchange.number,
+                if short { call::BUFFER } else { call::ACCEPTED }
+            );
+            let cut = !short && request.len() < sound.len();
+            assert!(!cut || exchange.code == status::INVALID_PARAMETER);
+        }
+    }
+}
+
+fn resized(request: &[u8], length: usize) -> Vec<u8> {
+    let mut resized = request.to_vec();
+    resized.resize(length, 0x77);
+    resized
+}
+
+#[test]
+fn every_value_of_each_header_byte_agrees() {
+    let random = &mut Random::new(12);
+    let adapter = Adapter::of_counts(random, 2, 2);
+    for control in names::code::ALL {
+        let sound = request::sound(random, &adapter, control);
+        let mut requests = Vec::new();
+        for at in 0..header::SIZE {
+            for change in 0..=255 {
+                let mut request = sound.clone();
+                request[at] ^= change;
+                requests.push(request);
+            }
+        }
+        let medium = random.bytes(adapter.medium_length());
+        let case = Case::of_requests(
+            u64::from(control),
+            b"CSMI=Full;",
+            &adapter.file(),
+            &medium,
+            &requests,
+        );
+        assert_eq!(agreed(&case).handled, 256 * header::SIZE);
+    }
+}
+
+/// A sound request of a code; of code 25, a write of one sector.
+fn small_request(random: &mut Random, adapter: &Adapter, control: u32) -> Vec<u8> {
+    if control != names::code::STP_PASSTHRU {
+        return request::sound(random, adapter, control);
+    }
+    let fis = fis::command(random, names::stp::WRITE, 3, 1);
+    let body = Passthrough::of_fis(random, adapter, fis).body(random);
+    request::buffer(control, &body)
+}
+
+#[test]
+fn every_value_of_each_body_byte_agrees() {
+    let random = &mut Random::new(13);
+    let adapter = Adapter::of_counts(random, 5, 6);
+    for control in names::code::ALL {
+        let sound = small_request(random, &adapter, control);
+        let mut requests = Vec::new();
+        for at in (header::SIZE..sound.len()).take(48) {
+            for change in 0..=255 {
+                let mut request = sound.clone();
+                request[at] ^= change;
+                requests.push(request);
+            }
+        }
+        let medium = random.bytes(adapter.medium_length());
+        let case = Case::of_requests(
+            u64::from(control),
+            b"CSMI=Full;",
+            &adapter.file(),
+            &medium,
+            &requests,
+        );
+        assert_eq!(agreed(&case).handled, requests.len());
+    }
+}
+
+/// Document 01's example: Restricted, a sound code 1, a sound code 21 and a buffer of 5 bytes.
+#[test]
+fn the_example_of_document_01() {
+    let random = &mut Random::new(14);
+    let adapter = Adapter::of_counts(random, 1, 0);
+    let requests = [
+        request::sound(random, &adapter, names::code::DRIVER_INFO),
+        request::sound(random, &adapter, names::code::SET_PHY_INFO),
+        vec![0; 5],
+    ];
+    let medium = vec![0; adapter.medium_length()];
+    let case = Case::of_requests(14, b"CSMI=Restricted;", &adapter.file(), &medium, &requests);
+    let outcome = agreed(&case);
+    let answers: Vec<(u32, u32)> = case
+        .exchanges(&outcome)
+        .iter()
+        .map(|one| (one.number, one.code))
+        .collect();
+    assert_eq!(answers, [(0, 0), (0, 4), (100, status::NONE)]);
+}
+
+/// A phy whose device knows 9 alone is set to 8 alone: each link reset fails and counts, until the counter is at its end.
+#[test]
+fn failed_link_resets_count_up_to_the_end() {
+    let mut adapter = Adapter::of_counts(&mut Random::new(15), 1, 0);
+    let bytes = &mut adapter.phys[0].bytes;
+    (bytes[phy::MINIMUM], bytes[phy::MAXIMUM]) = (0x88, 0x99);
+    (
+        bytes[phy::ATTACHED_TYPE],
+        bytes[phy::LOWEST],
+        bytes[phy::HIGHEST],
+    ) = (phy::END_DEVICE, 9, 9);
+    (bytes[phy::NEGOTIATED], bytes[phy::HELD], bytes[phy::FIXED]) = (9, 0, 0);
+    bytes[phy::SIGNATURE..phy::HELD].fill(0);
+    put_word(bytes, phy::COUNTERS + 12, u32::MAX - 2);
+    let slow = request::buffer(names::code::SET_PHY_INFO, &[0, 0, 0, 8, 0, 0, 0, 0]);
+    let errors = request::buffer(names::code::LINK_ERRORS, &[0; 20]);
+    let requests: Vec<Vec<u8>> = (0..4)
+        .flat_map(|_| [slow.clone(), errors.clone()])
+        .collect();
+    let medium = vec![0; adapter.medium_length()];
+    let case = Case::of_requests(15, b"CSMI=Full;", &adapter.file(), &medium, &requests);
+    let outcome = agreed(&case);
+    let exchanges = case.exchanges(&outcome);
+    let counters = exchanges.iter().skip(1).step_by(2);
+    let problems: Vec<u32> = counters
+        .map(|one| word(one.reply, header::SIZE + 16))
+        .collect();
+    assert_eq!(problems, [u32::MAX - 1, u32::MAX, u32::MAX, u32::MAX]);
+}
+
+/// A row of zeros below a is a row like others, found both ways.
+#[test]
+fn a_row_of_zeros_is_found() {
+    let mut adapter = Adapter::of_counts(&mut Random::new(16), 1, 3);
+    adapter.rows[1] = [0; names::ROW_SIZE];
+    let requests = [names::code::SCSI_ADDRESS, names::code::DEVICE_ADDRESS]
+        .map(|control| request::buffer(control, &[0; 20]));
+    let medium = vec![0; adapter.medium_length()];
+    let case = Case::of_requests(16, b"", &adapter.file(), &medium, &requests);
+    let outcome = agreed(&case);
+    assert_eq!(outcome.handled, 2);
+    assert!(case.exchanges(&outcome).iter().all(need::granted));
+}
+
+#[test]
+fn a_session_cut_at_each_place() {
+    let mut case = sound_case(21, text::FULL, 3);
+    let whole = case.session.clone();
+    let mut counts = Vec::new();
+    for length in 0..=whole.len() {
+        case.session = whole[..length].to_vec();
+        counts.push(agreed(&case).handled);
+    }
+    assert!(counts.is_sorted());
+    assert_eq!(
+        (counts[0], counts[whole.len() - 1], counts[whole.len()]),
+        (0, 2, 3)
+    );
+}
+
+#[test]
+fn lengths_near_the_longest() {
+    let base = sound_case(22, text::FULL, 4);
+    for length in [
+        0,
+        1,
+        27,
+        28,
+        LONGEST - 1,
+        LONGEST,
+        LONGEST + 1,
+        LONGEST + 256,
+        0x7FFF_FFFF,
+        0xFFFF_FFFC,
+        0xFFFF_FFFF,
+    ] {
+        for bytes in [0, 1, 28, LONGEST - 1, LONGEST, LONGEST + 1] {
+            let mut case = base.clone();
+            case.record = vec![0x5A; 100];
+            case.session.extend(oversized(length as u32, bytes));
+            case.session.extend([5, 0, 0, 0, 9]);
+            let handled = agreed(&case).handled;
+            let whole = length <= LONGEST && length <= bytes + 5;
+            assert_eq!(handled > 4, whole, "length {length}, {bytes} bytes");
+        }
+    }
+}
+
+#[test]
+fn the_longest_request_is_handled() {
+    let random = &mut Random::new(23);
+    let adapter = Adapter::of_counts(random, 2, 0);
+    let medium = vec![0; adapter.medium_length()];
+    let mut request = request::sound(random, &adapter, names::code::DRIVER_INFO);
+    request.resize(LONGEST, 1);
+    let case = Case::of_requests(23, b"", &adapter.file(), &medium, &[request]);
+    let outcome = agreed(&case);
+    assert_eq!(case.exchanges(&outcome)[0].code, status::SUCCESS);
+}
+
+#[test]
+fn records_of_each_length() {
+    let mut case = sound_case(24, text::LIMITED, 9);
+    for length in 0..90 {
+        case.record = (0..length as u8).collect();
+        let outcome = agreed(&case);
+        assert_eq!(outcome.handled, (length / 8).min(9));
+        assert_eq!(
+            outcome.record[8 * outcome.handled..],
+            case.record[8 * outcome.handled..]
+        );
+    }
+}
+
+#[test]
+fn nothing_at_all() {
+    let empty = Case {
+        seed: 0,
+        text: Vec::new(),
+        file: Vec::new(),
+        medium: Vec::new(),
+        session: Vec::new(),
+        record: Vec::new(),
+    };
+    let outcome = agreed(&empty);
+    assert_eq!((outcome.opening, outcome.handled), (call::FILE_LENGTH, 0));
+}
+
+#[test]
+fn after_a_refused_opening_every_request_gets_107() {
+    let mut refused = 0;
+    for seed in 0..60 {
+        let random = &mut Random::new(seed);
+        let adapter = Adapter::sound(random);
+        let opening = generate::damaged_opening(random, &adapter);
+        let mut requests = generate::requests(random, &adapter, 20);
+        requests.push(Vec::new());
+        let mut case = Case::of_requests(
+            seed,
+            &opening.text,
+            &opening.file,
+            &opening.medium,
+            &requests,
+        );
+        case.session.extend(join(&[vec![1, 2, 3]])); // one more than the record has room for
+        let outcome = agreed(&case);
+        if outcome.opening == call::ACCEPTED {
+            continue;
+        }
+        refused += 1;
+        assert_eq!(outcome.handled, 21);
+        assert!(outcome.medium == case.medium && outcome.session == case.session);
+        let exchanges = case.exchanges(&outcome);
+        assert!(exchanges
+            .iter()
+            .all(|exchange| exchange.number == call::STATE && exchange.code == status::NONE));
+    }
+    assert!(refused > 50, "only {refused} openings were refused");
+}

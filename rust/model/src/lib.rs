@@ -1,0 +1,25 @@
+//! A SAS host adapter as a console sees it: an independent implementation of document 01,
+//! to be compared with the proved one.
+//!
+//! Two calls: [`open`] an adapter, and handle one [`request`]. The modules follow the
+//! document's parts, each resting on the ones before it: level, link, fields, file, disk, request.
+
+#![forbid(unsafe_code)]
+
+mod bytes;
+pub mod codes;
+pub mod disk;
+pub mod fields;
+pub mod file;
+pub mod level;
+pub mod link;
+pub mod request;
+pub mod state;
+
+#[cfg(test)]
+mod tests;
+
+pub use file::{block_check, open};
+pub use link::{link_rule, Rates};
+pub use request::{denied, request};
+pub use state::{Phy, Row, State};

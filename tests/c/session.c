@@ -1,0 +1,197 @@
+/* The samples and damaged input through include/ascheknopf.h. What is expected was written down from document 01 and the samples'
+   descriptions, the return codes by section 10 of 001. Runs in the repository's root. */
+#include "ascheknopf.h"
+
+#include <stdio.h>
+#include <string.h>
+
+enum { PHYS = 4, FILE_SIZE = 6 * 512, DISK = 8192, SECTOR = 512, HEADER = 28, LINE = 8 };
+
+static const char RESTRICTED[] = "CSMI=Restricted;", FULL[] = "CSMI=Full;";
+static const uint32_t NONE = ASCHEKNOPF_NO_CODE;
+
+/* What a run gets. Medium, session and record are then what it left. */
+static struct run {
+    uint8_t file[FILE_SIZE], medium[PHYS * DISK], session[4 + 32769], record[20 * LINE];
+    size_t file_len, medium_len, session_len, record_len;
+} run, before;
+
+static int passed, failed;
+
+static void check(const char *what, int holds)
+{
+    if (holds)
+        passed++;
+    else
+        printf("FAIL session.c: %s\n", what), failed++;
+}
+
+static uint32_t word(const uint8_t *at)
+{
+    return at[0] | (uint32_t)at[1] << 8 | (uint32_t)at[2] << 16 | (uint32_t)at[3] << 24;
+}
+
+static int all(const uint8_t *at, size_t length, uint8_t value)
+{
+    while (length > 0 && at[length - 1] == value)
+        length--;
+    return length == 0;
+}
+
+static size_t read_file(const char *sample, const char *name, uint8_t *bytes, size_t room)
+{
+    char path[64];
+    snprintf(path, sizeof path, "samples/%s/%s", sample, name);
+    FILE *file = fopen(path, "rb");
+    size_t length = file ? fread(bytes, 1, room, file) : 0;
+    if (file)
+        fclose(file);
+    check(path, length > 0);
+    return length;
+}
+
+/* A sample, a medium of zeros and a record of 5Ah. */
+static void start(const char *sample)
+{
+    memset(&run, 0, sizeof run);
+    memset(run.record, 0x5A, sizeof run.record);
+    run.file_len = read_file(sample, "adapter.bin", run.file, sizeof run.file);
+    run.session_len = read_file(sample, "session", run.session, sizeof run.session);
+    run.medium_len = sizeof run.medium;
+    run.record_len = sizeof run.record;
+}
+
+static uint32_t opened(const char *text)
+{
+    return ascheknopf_open((const uint8_t *)text, strlen(text), run.file, run.file_len, run.medium, run.medium_len);
+}
+
+static size_t handled(const char *text)
+{
+    before = run;
+    return ascheknopf_run((const uint8_t *)text, strlen(text), run.file, run.file_len, run.medium, run.medium_len,
+                          run.session, run.session_len, run.record, run.record_len);
+}
+
+/* Line n of the record, from 1. */
+static int line_is(size_t n, uint32_t call, uint32_t code)
+{
+    return word(run.record + (n - 1) * LINE) == call && word(run.record + (n - 1) * LINE + 4) == code;
+}
+
+/* Where request n stands in the session, from 1; its length comes first. */
+static size_t place(size_t n)
+{
+    return n == 1 ? 0 : place(n - 1) + 4 + word(run.session + place(n - 1));
+}
+
+static const uint8_t *body(size_t n)
+{
+    return run.session + place(n) + 4 + HEADER;
+}
+
+static int session_stays(size_t from)
+{
+    return memcmp(run.session + from, before.session + from, sizeof run.session - from) == 0;
+}
+
+/* Status of code 25: OPEN_ACCEPT, the status FIS, uSCR and uDataBytes. */
+static int status_is(const uint8_t *b, uint8_t count, uint32_t moved)
+{
+    const uint8_t begin[8] = {0, 0, 0, 0, 0x34, 0, 0x50, 0};
+    return memcmp(b + 44, begin, 8) == 0 && memcmp(b + 52, b + 20, 8) == 0 && b[60] == count && b[61] == b[29]
+        && all(b + 62, 6 + 64, 0) && word(b + 132) == moved;
+}
+
+/* A sample at a level: the return code of each request, NONE for the one under 28 bytes; and the byte that fills sector 3 of phy 0. */
+static void sample(const char *name, const char *text, size_t count, const uint32_t *codes, uint8_t sector)
+{
+    int same = 1;
+    start(name);
+    check("sample: opening", opened(text) == 0);
+    check("sample: requests handled", handled(text) == count);
+    for (size_t n = 1; n <= count; n++)
+        same = same && line_is(n, codes[n - 1] == NONE ? 100 : 0, codes[n - 1]);
+    check("sample: lines of the record", same);
+    check("sample: the record's rest", all(run.record + count * LINE, sizeof run.record - count * LINE, 0x5A));
+    check("sample: sector 3", all(run.medium + 3 * SECTOR, SECTOR, sector));
+    check("sample: the other sectors", all(run.medium, 3 * SECTOR, 0) && all(run.medium + 4 * SECTOR, sizeof run.medium - 4 * SECTOR, 0));
+}
+
+/* The replies of samples/good. */
+static void replies(void)
+{
+    const uint8_t address[16] = {0x50, 0x00, 0xC5, 0, 0, 0, 0, 2}, os[4] = {0, 0, 1, 0}, phys[4] = {4, 0, 0, 0};
+    check("driver info", memcmp(body(1), "csmilab", 8) == 0 && body(1)[162] == 1 && body(1)[164] == 4 && body(1)[172] == 81);
+    check("phy info", memcmp(body(2), phys, 4) == 0 && all(body(2) + 4 + 64 * PHYS, 64 * (32 - PHYS), 0));
+    check("negotiated rates", body(2)[33] == 9 && body(2)[97] == 8 && body(2)[161] == 9 && body(2)[225] == 0);
+    check("link errors", word(body(3) + 4) == 3 && word(body(3) + 8) == 0 && word(body(3) + 12) == 1 && word(body(3) + 16) == 0);
+    check("SCSI address", memcmp(body(7) + 16, os, 4) == 0);
+    check("device address", memcmp(body(8) + 4, address, 16) == 0);
+    check("identify", status_is(body(9), 0, 512) && body(9)[136 + 99] == 0x02 && body(9)[136 + 120] == 16);
+    check("power mode", status_is(body(12), 0xFF, 0));
+}
+
+/* An opening that is refused: its number, 107 for each request, and all bytes but the record's lines stay. */
+static void refused(const char *what, const char *text, uint32_t number)
+{
+    int same = opened(text) == number && handled(text) == 12 && session_stays(0);
+    for (size_t n = 1; n <= 12; n++)
+        same = same && line_is(n, 107, NONE);
+    check(what, same && all(run.medium, sizeof run.medium, 0));
+}
+
+static void damaged_openings(void)
+{
+    start("good");
+    refused("a wrong text", "CSMI=full;", 101);
+    refused("an unclosed text", "CSMI=Full", 101);
+    run.medium_len--;
+    refused("a short medium", FULL, 106);
+    run.file[600] ^= 1;
+    refused("a damaged block", FULL, 103);
+    run.file_len--;
+    refused("a short file", FULL, 102);
+    run.file_len = 0;
+    refused("no file", "", 102);
+}
+
+static void damaged_sessions(void)
+{
+    start("good");
+    run.session_len--;
+    check("a cut request", handled(FULL) == 11 && session_stays(place(12)));
+    run.session_len = 3;
+    check("a cut length", handled(FULL) == 0);
+    run.session_len = sizeof run.session;
+    memcpy(run.session, "\x01\x80\0\0", 4);
+    check("a request of 32,769 bytes", handled(FULL) == 0 && session_stays(0));
+    run.session[0] = 0;
+    check("a request of 32,768 bytes", handled(FULL) == 1);
+    start("good");
+    run.record_len = 5 * LINE + 7;
+    check("a short record", handled(FULL) == 5 && session_stays(place(6)) && all(run.record + 5 * LINE, 7, 0x5A));
+    run.record_len = 0;
+    check("no record", handled(FULL) == 0 && session_stays(0));
+}
+
+int main(void)
+{
+    const uint32_t good[12] = {0};
+    const uint32_t low[12] = {0, 0, 4, 4, 0, 0, 4, 4, 0, 4, 2002, 0};
+    const uint32_t high[12] = {0, 0, 0, 0, 0, 2008, 0, 0, 2008, 2002, 2002, 0};
+    /* Document 01's example is in it: a sound code 1, a 5-byte buffer, and as the fifth a sound code 21. */
+    const uint32_t refusals[16] = {0, NONE, 2, 3, 4, 4, 4, 2002, 2003, 2005, 2006, 2008, 2009, 2010, 2013, 2014};
+
+    sample("good", RESTRICTED, 12, good, 0);
+    replies();
+    sample("writes", RESTRICTED, 12, low, 0);
+    check("a read after a denied write", status_is(body(5), 1, SECTOR) && all(body(5) + 136, SECTOR, 0));
+    sample("writes", FULL, 12, high, 0x5A);
+    check("a read after a write", status_is(body(5), 1, SECTOR) && all(body(5) + 136, SECTOR, 0x5A));
+    sample("refusals", RESTRICTED, 16, refusals, 0);
+    damaged_openings();
+    damaged_sessions();
+    printf("%d passed, %d failed\n", passed, failed);
+    return failed > 0;
+}
