@@ -31,6 +31,15 @@ selection-past phy port p lowest own own′ r h e =
     ∙ by-bool (λ (g : Bool). phyGiven phy ≡ g → selection phy port p lowest own ≡ selection phy port p lowest own′)
     (λ g. rw (g, le-leb p (phy .0) h) refl) (λ g. rw g refl) (phyGiven phy) refl
 
+-- the lowest phy of a port that is not given does not matter
+pub selection-portless : (phy : PhyIdentifier) (port : PortIdentifier) (p lowest lowest′ : ℕ) (own : PortIdentifier) (given : Bool) (r : Selection) → given ≡ portGiven port
+    → given ≡ false → r ≡ selection phy port p lowest own → r ≡ selection phy port p lowest′ own
+unfolding selection
+selection-portless phy port p lowest lowest′ own given r f h e =
+    e
+    ∙ by-bool (λ (g : Bool). phyGiven phy ≡ g → selection phy port p lowest own ≡ selection phy port p lowest′ own) (λ g. rw (g, ← f, h) refl)
+    (λ g. rw (g, ← f, h) refl) (phyGiven phy) refl
+
 -- ---- a phy that was selected is below p
 
 Accepts : Selection → Type 0

@@ -159,7 +159,11 @@ pub fn select_phy(adapter: Adapter, phy: PhyIdentifier, port: PortIdentifier) ->
     requires { ⌜ adapter .«phy_count» ≤ 32 ⌝ }
     ensures { λ r. ⌜ r ≡ selectIn adapter phy port ⌝ }
 {
-    let phys = adapter.phys;
-    let lowest = lowest(phys, adapter.phy_count, port);
-    select_from(adapter, phy, port, lowest)
+    if port_given(port) {
+        let phys = adapter.phys;
+        let lowest = lowest(phys, adapter.phy_count, port);
+        return select_from(adapter, phy, port, lowest);
+    }
+    // no port to look for
+    select_from(adapter, phy, port, 0)
 }

@@ -1,13 +1,12 @@
-//! `bench`: requests per second of the library and of the model on the same sessions, as a Markdown table. The opening of each
-//! session is measured alone and subtracted.
+//! `bench`: requests per second of the library, of the model, and of the model with the state tested once for a run, on the same
+//! sessions, as a Markdown table. The opening of each session is measured alone and subtracted.
 //!
 //! `bench --count SIDE SESSION P A N`: that side alone, on that session, N times; to be counted from outside.
 
 mod measure;
 mod workload;
 
-use differential::side::Side;
-use measure::{Copies, Times};
+use measure::{Copies, Times, MEASURED};
 use std::process::ExitCode;
 use std::time::Duration;
 use workload::{Kind, SESSIONS, SIZES};
@@ -32,7 +31,8 @@ fn main() -> ExitCode {
 }
 
 fn wrong_use() -> ExitCode {
-    eprintln!("use: bench [--sessions | --count library|model SESSION P A TIMES]");
+    let sides = MEASURED.map(|(name, _)| name).join("|");
+    eprintln!("use: bench [--sessions | --count {sides} SESSION P A TIMES]");
     ExitCode::from(2)
 }
 
@@ -44,8 +44,11 @@ fn list() {
 }
 
 fn table() {
-    println!("| session | p | a | library requests/s | model requests/s | library/model |");
-    println!("|---|---|---|---|---|---|");
+    println!(
+        "| session | p | a | library requests/s | model requests/s | library/model \
+         | model with the state tested once requests/s | library/that |"
+    );
+    println!("|---|---|---|---|---|---|---|---|");
     for (p, a) in SIZES {
         let opening = measure::times(&measure::checked(Kind::Opening, p, a, 0));
         for (name, kind) in SESSIONS {
@@ -69,15 +72,18 @@ fn without(times: Times, opening: Times) -> Times {
     Times {
         library: times.library.saturating_sub(opening.library),
         model: times.model.saturating_sub(opening.model),
+        tested_once: times.tested_once.saturating_sub(opening.tested_once),
     }
 }
 
 fn row(name: &str, p: usize, a: usize, times: Times, requests: usize) {
     let library = rate(times.library, requests);
     let model = rate(times.model, requests);
+    let tested_once = rate(times.tested_once, requests);
     println!(
-        "| {name} | {p} | {a} | {library:.0} | {model:.0} | {:.2} |",
-        library / model
+        "| {name} | {p} | {a} | {library:.0} | {model:.0} | {:.2} | {tested_once:.0} | {:.2} |",
+        library / model,
+        library / tested_once
     );
 }
 
@@ -86,11 +92,7 @@ fn rate(time: Duration, requests: usize) -> f64 {
 }
 
 fn count(side: &str, session: &str, p: &str, a: &str, times: &str) -> Option<()> {
-    let side = match side {
-        "library" => Side::Library,
-        "model" => Side::Model,
-        _ => return None,
-    };
+    let (_, side) = MEASURED.into_iter().find(|(name, _)| *name == side)?;
     let (p, a) = (p.parse().ok()?, a.parse().ok()?);
     let times: usize = times.parse().ok()?;
     if !(1..=32).contains(&p) || a > 64 {

@@ -4,18 +4,26 @@ use crate::workload::{self, Kind};
 use differential::compare::compare;
 use differential::names::call;
 use differential::need;
-use differential::side::{Case, Side, SIDES};
+use differential::side::{Case, Side};
 use std::time::{Duration, Instant};
 
 /// Requests in a measured session.
 pub const REQUESTS: usize = 2000;
 const REPETITIONS: usize = 15;
 
+/// The sides that are measured, by their names for a script.
+pub const MEASURED: [(&str, Side); 3] = [
+    ("library", Side::Library),
+    ("model", Side::Model),
+    ("model-tested-once", Side::ModelTestedOnce),
+];
+
 /// The median time of a session, by side.
 #[derive(Clone, Copy)]
 pub struct Times {
     pub library: Duration,
     pub model: Duration,
+    pub tested_once: Duration,
 }
 
 /// Fresh copies of what a run writes.
@@ -47,16 +55,20 @@ pub fn measured(side: Side, case: &Case, copies: &mut Copies) -> usize {
     )
 }
 
-/// Both sides on a session, in turn, so that a slower moment of the machine meets both.
+/// All sides on a session, in turn, so that a slower moment of the machine meets all.
 pub fn times(case: &Case) -> Times {
-    let mut all = [Vec::new(), Vec::new()];
+    let mut all = MEASURED.map(|_| Vec::new());
     for _ in 0..REPETITIONS {
-        for (side, times) in SIDES.into_iter().zip(&mut all) {
+        for ((_, side), times) in MEASURED.into_iter().zip(&mut all) {
             times.push(time(side, case));
         }
     }
-    let [library, model] = all.map(median);
-    Times { library, model }
+    let [library, model, tested_once] = all.map(median);
+    Times {
+        library,
+        model,
+        tested_once,
+    }
 }
 
 fn time(side: Side, case: &Case) -> Duration {
@@ -73,10 +85,11 @@ fn median(mut times: Vec<Duration>) -> Duration {
     times[times.len() / 2]
 }
 
-/// A session that both sides answer alike, with every request granted, or, where there are no rows, answered.
+/// A session that all sides answer alike, with every request granted, or, where there are no rows, answered.
 pub fn checked(kind: Kind, p: usize, a: usize, requests: usize) -> Case {
     let case = workload::case(kind, p, a, requests);
     let outcome = compare(&case).unwrap_or_else(|difference| panic!("{difference}"));
+    assert!(Side::ModelTestedOnce.run(&case) == outcome);
     let exchanges = case.exchanges(&outcome);
     assert!(exchanges
         .iter()

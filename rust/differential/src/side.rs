@@ -1,4 +1,4 @@
-//! The two implementations behind one function: a case goes in, what came of it comes out.
+//! The implementations behind one function: a case goes in, what came of it comes out.
 
 use crate::names::{call, header, status};
 use crate::session;
@@ -38,15 +38,18 @@ pub struct Exchange<'a> {
 pub enum Side {
     Library,
     Model,
+    /// The model with state and medium length tested before the first request of a run, not at each.
+    ModelTestedOnce,
 }
 
+/// The two implementations.
 pub const SIDES: [Side; 2] = [Side::Library, Side::Model];
 
 impl Side {
     pub fn open(self, text: &[u8], file: &[u8], medium: &[u8]) -> u32 {
         match self {
             Side::Library => library::open(text, file, medium),
-            Side::Model => model::open(text, file, medium).0,
+            Side::Model | Side::ModelTestedOnce => model::open(text, file, medium).0,
         }
     }
 
@@ -83,6 +86,7 @@ impl Side {
         match self {
             Side::Library => library::run(text, file, medium, session, record),
             Side::Model => run_model(text, file, medium, session, record),
+            Side::ModelTestedOnce => run_tested_once(text, file, medium, session, record),
         }
     }
 }
@@ -95,6 +99,34 @@ fn run_model(
     record: &mut [u8],
 ) -> usize {
     let (_, mut state) = model::open(text, file, medium);
+    each_request(session, record, |buffer| {
+        model::request(&mut state, medium, buffer)
+    })
+}
+
+/// The same run; where a test fails, each request gets its number.
+fn run_tested_once(
+    text: &[u8],
+    file: &[u8],
+    medium: &mut [u8],
+    session: &mut [u8],
+    record: &mut [u8],
+) -> usize {
+    let (_, mut state) = model::open(text, file, medium);
+    match model::tested(&state, medium) {
+        Ok(()) => each_request(session, record, |buffer| {
+            model::answer(&mut state, medium, buffer)
+        }),
+        Err(number) => each_request(session, record, |_| number),
+    }
+}
+
+/// The requests of a session in their order, as far as the record has room: the number of those handled.
+fn each_request(
+    session: &mut [u8],
+    record: &mut [u8],
+    mut handle: impl FnMut(&mut [u8]) -> u32,
+) -> usize {
     let mut at = 0;
     let mut handled = 0;
     for entry in record.chunks_exact_mut(8) {
@@ -103,7 +135,7 @@ fn run_model(
         };
         at = place.end;
         let buffer = &mut session[place];
-        let number = model::request(&mut state, medium, buffer);
+        let number = handle(buffer);
         put_word(entry, 0, number);
         put_word(entry, 4, return_code(number, buffer));
         handled += 1;

@@ -1,8 +1,9 @@
 //! A SAS host adapter as a console sees it: an independent implementation of document 01,
 //! to be compared with the proved one.
 //!
-//! Two calls: [`open`] an adapter, and handle one [`request`]. The modules follow the
-//! document's parts, each resting on the ones before it: level, link, fields, file, disk, request.
+//! Two calls: [`open`] an adapter, and handle one [`request`]; the latter also in its two parts,
+//! [`tested`] and [`answer`]. The modules follow the document's parts, each resting on the ones
+//! before it: level, link, fields, file, disk, request.
 
 #![forbid(unsafe_code)]
 
@@ -21,5 +22,5 @@ mod tests;
 
 pub use file::{block_check, open};
 pub use link::{link_rule, Rates};
-pub use request::{denied, request};
+pub use request::{answer, denied, request, tested};
 pub use state::{Phy, Row, State};

@@ -116,7 +116,27 @@ type Reply = Result<u32, u32>;
 
 /// Handles one request: the call's number.
 pub fn request(state: &mut State, medium: &mut [u8], buffer: &mut [u8]) -> u32 {
-    let code = match admit(state, medium, buffer) {
+    match tested(state, medium) {
+        Ok(()) => answer(state, medium, buffer),
+        Err(number) => number,
+    }
+}
+
+/// The first two checks of a request, "state; medium length"; `Err` is the call's number.
+pub fn tested(state: &State, medium: &[u8]) -> Result<(), u32> {
+    if !fields::state_is_sound(state) {
+        return Err(call::STATE);
+    }
+    if medium.len() != disk::medium_length(state.p) {
+        return Err(call::MEDIUM_LENGTH);
+    }
+    Ok(())
+}
+
+/// A request from the third check on, for a caller that has made the first two. They still pass
+/// after it, so that a run may make them once. Where they fail it may answer anything, or panic.
+pub fn answer(state: &mut State, medium: &mut [u8], buffer: &mut [u8]) -> u32 {
+    let code = match admit(buffer) {
         Err(Refusal::Call(number)) => return number,
         Err(Refusal::Code(code)) => code,
         Ok(admitted) if is_denied(&admitted, state) => status::WRITE_ATTEMPTED,
@@ -130,21 +150,15 @@ pub fn request(state: &mut State, medium: &mut [u8], buffer: &mut [u8]) -> u32 {
 
 /// "A request is denied if it passes all before the level and its need is above it."
 pub fn denied(state: &State, medium: &[u8], buffer: &[u8]) -> bool {
-    admit(state, medium, buffer).is_ok_and(|admitted| is_denied(&admitted, state))
+    tested(state, medium).is_ok() && admit(buffer).is_ok_and(|admitted| is_denied(&admitted, state))
 }
 
 fn is_denied(admitted: &Admitted, state: &State) -> bool {
     admitted.need as u8 > state.level
 }
 
-/// The checks before the level, in their order.
-fn admit(state: &State, medium: &[u8], buffer: &[u8]) -> Result<Admitted, Refusal> {
-    if !fields::state_is_sound(state) {
-        return Err(Refusal::Call(call::STATE));
-    }
-    if medium.len() != disk::medium_length(state.p) {
-        return Err(Refusal::Call(call::MEDIUM_LENGTH));
-    }
+/// The checks of the buffer before the level, in their order.
+fn admit(buffer: &[u8]) -> Result<Admitted, Refusal> {
     let Some((header, body)) = buffer.split_first_chunk::<HEADER>() else {
         return Err(Refusal::Call(call::BUFFER_LENGTH));
     };

@@ -1,0 +1,72 @@
+//! The model with the state tested once for a run: it answers as the model does, and the tests would pass at each request.
+
+use differential::adapter::Adapter;
+use differential::generate;
+use differential::names::call;
+use differential::random::Random;
+use differential::side::Side;
+
+/// Some 5,000 requests over 400 openings, refused ones too: every number and every byte.
+#[test]
+fn random_runs_agree_with_the_model() {
+    let (mut requests, mut refused) = (0, 0);
+    for seed in 0..400 {
+        let case = generate::case(seed, 30);
+        let model = Side::Model.run(&case);
+        assert!(Side::ModelTestedOnce.run(&case) == model, "seed {seed}");
+        requests += model.handled;
+        refused += usize::from(model.opening != call::ACCEPTED && model.handled > 0);
+    }
+    assert!(requests > 4_000, "only {requests} requests");
+    assert!(refused > 20, "only {refused} runs after a refused opening");
+}
+
+/// The states too, after each of 4,000 requests.
+#[test]
+fn states_agree_and_keep_the_rules() {
+    for seed in 0..40 {
+        let random = &mut Random::new(seed);
+        let adapter = Adapter::sound(random);
+        let opening = generate::sound_opening(random, &adapter);
+        let (number, mut state) = model::open(&opening.text, &opening.file, &opening.medium);
+        assert_eq!(number, call::ACCEPTED);
+        let (mut other, mut medium) = (state.clone(), opening.medium);
+        let mut other_medium = medium.clone();
+        for request in generate::requests(random, &adapter, 100) {
+            let (mut reply, mut same) = (request.clone(), request);
+            let number = model::request(&mut state, &mut medium, &mut reply);
+            assert_eq!(
+                model::answer(&mut other, &mut other_medium, &mut same),
+                number
+            );
+            assert!(reply == same && state == other && medium == other_medium);
+            assert_eq!(model::tested(&other, &other_medium), Ok(()));
+        }
+    }
+}
+
+/// Where a test fails, `request` gives its number, whatever the buffer.
+#[test]
+fn a_failed_test_is_the_number_of_each_request() {
+    let random = &mut Random::new(3);
+    let adapter = Adapter::of_counts(random, 3, 2);
+    let medium = vec![0; adapter.medium_length()];
+    let (_, sound) = model::open(b"CSMI=Full;", &adapter.file(), &medium);
+    let mut broken = sound.clone();
+    broken.level = 4;
+    let short = vec![0; medium.len() - 1];
+    for (state, medium, expected) in [
+        (&sound, &short, call::MEDIUM_LENGTH),
+        (&broken, &medium, call::STATE),
+        (&broken, &short, call::STATE),
+    ] {
+        assert_eq!(model::tested(state, medium), Err(expected));
+        let (mut state, mut medium) = (state.clone(), medium.clone());
+        for mut request in generate::requests(random, &adapter, 200) {
+            assert_eq!(
+                model::request(&mut state, &mut medium, &mut request),
+                expected
+            );
+        }
+    }
+}
