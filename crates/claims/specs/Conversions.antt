@@ -7,7 +7,7 @@ use mathlib.Core.List.{List, _++_}
 use Prim.Native.Nat.{ℕ, _+_, _<_, _≤_}
 use native.Mathlib.Omega.{arith}
 use lib.Dec.{eqb, ltb, leb}
-use lib.ListN.{length, getD, take, drop}
+use lib.ListN.{length, take}
 use lib.Seq.{length-take-le, drop-drop, drop-append-add}
 use borrow.Author.Tests.{le-ltb, lt-ltb, eq-eqb, eqb-true, ltb-true}
 use Rattle.laws.specs.Choice.{either, both-left, both-right, came-then}
@@ -35,7 +35,7 @@ use Rattle.state.specs.Accepted.{Open, open-accepted, open-holds}
 use Rattle.header.specs.Table.{structureSize}
 use Rattle.header.specs.Laws.{access-room}
 use Rattle.header.specs.Header.{controlCode, bodyOf, accessCode}
-use Rattle.dispatch.specs.Serve.{reported, changed, reportOf, served}
+use Rattle.service.specs.Serve.{reported, changed, reportOf, served}
 use Rattle.dispatch.specs.Request.{Outcome, stateNumber, bufferNumber, callNumber, inBuffer, answered, replied, answeredAt, handled}
 use Rattle.claims.specs.Run.{replyOf}
 use Rattle.claims.specs.LastWriter.{granted}

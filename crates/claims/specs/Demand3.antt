@@ -2,7 +2,7 @@
 use mathlib.Core.Path.{_≡_, refl, sym, _∙_, ap}
 use mathlib.Core.Bool.{Bool, true, false, cond}
 use mathlib.Core.List.{List, [], _∷_}
-use Prim.Native.Nat.{ℕ, _*_, _<_, _≤_}
+use Prim.Native.Nat.{ℕ, _<_, _≤_}
 use native.Mathlib.Omega.{arith}
 use native.Mathlib.Decide.{ℕ-discrete}
 use lib.Dec.{eqb}
@@ -27,7 +27,7 @@ use Rattle.adapter.specs.declared.Adapter.{Adapter}
 use Rattle.adapter.specs.Adapter.{phyIn, zeroAdapter, countsHold, mediumSize}
 use Rattle.adapter.specs.Store.{phys-bound}
 use Rattle.link.specs.All.{negotiatedAll}
-use Rattle.changes.specs.SetPhyInfo.{resulting}
+use Rattle.set_phy_info.specs.SetPhyInfo.{resulting}
 use Rattle.passthrough.specs.Passthrough.{diskOf}
 use Rattle.state.specs.declared.State.{State}
 use Rattle.state.specs.declared.Opened.{Opened}

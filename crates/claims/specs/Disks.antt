@@ -20,9 +20,9 @@ use Rattle.disk.specs.Ways.{served-by}
 use Rattle.disk.specs.Laws.{sector, writes, covers, sectorAfter, disk-length, sector-after}
 use Rattle.adapter.specs.declared.Adapter.{Adapter}
 use Rattle.adapter.specs.Adapter.{mediumSize, phyIn}
-use Rattle.passthrough.specs.declared.Selection.{Selection}
-use Rattle.passthrough.specs.Select.{selection, selectBy, selectIn, none, selected, lowestOf, phyGiven, portGiven, portIn}
-use Rattle.passthrough.specs.Laws.{selected-below}
+use Rattle.select.specs.declared.Selection.{Selection}
+use Rattle.select.specs.Select.{selection, selectBy, selectIn, none, selected, lowestOf, phyGiven, portGiven, portIn}
+use Rattle.select.specs.Laws.{selected-below}
 use Rattle.passthrough.specs.Passthrough.{Passed, leaves, phyAsked, portAsked, connectionRate, destinationOf, formHolds, connected, diskOf, onDisk, sentTo, passedTo, passthrough}
 
 -- ---- the ways that it can go

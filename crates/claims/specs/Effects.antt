@@ -8,9 +8,8 @@ use native.Mathlib.Omega.{arith}
 use lib.Dec.{eqb, ltb}
 use lib.ListN.{length, getD, take}
 use borrow.Author.Tests.{eq-eqb, ne-eqb, eqb-true, ltb-true, ltb-false}
-use Rattle.laws.specs.Choice.{by-bool, either}
+use Rattle.laws.specs.Choice.{by-bool}
 use Rattle.laws.specs.First.{first-same}
-use Rattle.laws.specs.Splice.{part}
 use Rattle.codes.specs.Codes.{success, setPhyInfo, stpPassthru}
 use Rattle.phy.specs.declared.Phy.{Phy}
 use Rattle.phy.specs.declared.PhyIdentifier.{PhyIdentifier}
@@ -19,22 +18,21 @@ use Rattle.phy.specs.Entity.{portOf}
 use Rattle.phy.specs.Kept.{Settings}
 use Rattle.layout.specs.Layout.{phyCount}
 use Rattle.file.specs.File.{phyAt}
-use Rattle.disk.specs.Disk.{command, lba, dataLength}
+use Rattle.disk.specs.Disk.{command, dataLength}
 use Rattle.disk.specs.Laws.{sector, replyStatus, writes, covers}
 use Rattle.adapter.specs.declared.Adapter.{Adapter}
 use Rattle.adapter.specs.Adapter.{mediumSize, phyIn}
-use Rattle.changes.specs.Changed.{left as changedBy}
-use Rattle.changes.specs.SetPhyInfo.{resulting, setPhyInfo as setInfo}
-use Rattle.changes.specs.LinkErrors.{linkErrors}
-use Rattle.passthrough.specs.Select.{lowestOf, selection, selectBy, selectIn}
-use Rattle.passthrough.specs.Laws.{selection-past}
+use Rattle.change.specs.Changed.{left as changedBy}
+use Rattle.set_phy_info.specs.SetPhyInfo.{resulting, setPhyInfo as setInfo}
+use Rattle.link_errors.specs.LinkErrors.{linkErrors}
+use Rattle.select.specs.Select.{lowestOf, selection, selectBy, selectIn}
+use Rattle.select.specs.Laws.{selection-past}
 use Rattle.passthrough.specs.Passthrough.{phyAsked, portAsked, diskOf, passthrough}
 use Rattle.state.specs.declared.State.{State}
-use Rattle.header.specs.Table.{structureSize, dataSize}
 use Rattle.header.specs.Header.{controlCode, bodyOf}
-use Rattle.dispatch.specs.Serve.{Served, changed, passed, reported, reportOf, served}
-use Rattle.dispatch.specs.Laws.{passthrough-lent}
-use Rattle.dispatch.specs.Request.{Outcome, untouched, inBuffer, refused, replied, handled}
+use Rattle.service.specs.Serve.{Served, changed, passed, served}
+use Rattle.service.specs.Laws.{passthrough-lent}
+use Rattle.dispatch.specs.Request.{Outcome, inBuffer, replied, handled}
 use Rattle.claims.specs.Run.{Reply, Exchange, replyOf}
 use Rattle.claims.specs.LastWriter.{granted, selects, writesSector, sectorAfter, writesRate, rateAfter}
 use Rattle.claims.specs.Phys.{Moved, moved-refl, setNow, set-code, set-moved, errors-moved, errors-settings, set-rate}

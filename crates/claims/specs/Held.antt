@@ -1,7 +1,7 @@
 -- A state that 107 accepts goes on being accepted: what a request leaves passes the rules again, and the medium keeps its length. So the
 -- number of the state and the medium is the same at every request of a run. Assumes nothing.
-use mathlib.Core.Path.{_≡_, refl, sym, _∙_, ap}
-use mathlib.Core.Bool.{Bool, true, _&&_}
+use mathlib.Core.Path.{_≡_, refl, sym, _∙_}
+use mathlib.Core.Bool.{true, _&&_}
 use mathlib.Core.List.{List}
 use Prim.Native.Nat.{ℕ, _<_, _≤_}
 use native.Mathlib.Omega.{arith}
@@ -14,27 +14,26 @@ use Rattle.phy.specs.declared.Phy.{Phy}
 use Rattle.phy.specs.declared.PhyIdentifier.{PhyIdentifier}
 use Rattle.phy.specs.Change.{cleared, configured}
 use Rattle.phy.specs.Changed.{kept-configured}
-use Rattle.phy.specs.Entity.{programmedMinimum, programmedMaximum}
 use Rattle.fields.specs.Rules.{rangeHolds, fieldsHold}
 use Rattle.fields.specs.Hold.{fields-cleared, fields-configured}
 use Rattle.rows.specs.Row.{rowsHold}
 use Rattle.adapter.specs.declared.Adapter.{Adapter}
 use Rattle.adapter.specs.Adapter.{phyIn, withPhy, zeroAdapter, countsHold, fieldsAll, zeroPast, mediumSize}
 use Rattle.adapter.specs.Store.{fields-at, fields-stored, zero-stored, phys-bound}
-use Rattle.link.specs.Rule.{reset, disabled, negotiatedHolds}
+use Rattle.link.specs.Rule.{negotiatedHolds}
 use Rattle.link.specs.Kept.{holds-cleared, holds-reset, holds-disabled, fields-reset, fields-disabled}
 use Rattle.link.specs.All.{negotiatedAll, negotiated-at, negotiated-stored}
-use Rattle.changes.specs.declared.PhySetting.{PhySetting}
-use Rattle.changes.specs.Changed.{Served as Result, Changed}
-use Rattle.changes.specs.SetPhyInfo.{asked, programmable, resulting, parametersHold, ratesHold, linked, setTo, setPhyInfo}
-use Rattle.changes.specs.LinkErrors.{linkErrors}
+use Rattle.set_phy_info.specs.declared.PhySetting.{PhySetting}
+use Rattle.change.specs.Changed.{Served as Result, Changed}
+use Rattle.set_phy_info.specs.SetPhyInfo.{asked, programmable, parametersHold, ratesHold, linked, setTo, setPhyInfo}
+use Rattle.link_errors.specs.LinkErrors.{linkErrors}
 use Rattle.passthrough.specs.Passthrough.{passthrough}
 use Rattle.state.specs.declared.State.{State}
 use Rattle.state.specs.State.{tablesHold, adapterHolds, stateHolds, zeroState}
 use Rattle.state.specs.Open.{openedOf}
 use Rattle.header.specs.Header.{controlCode, bodyOf}
-use Rattle.dispatch.specs.Laws.{passthrough-lent}
-use Rattle.dispatch.specs.Serve.{Served}
+use Rattle.service.specs.Laws.{passthrough-lent}
+use Rattle.service.specs.Serve.{Served}
 use Rattle.dispatch.specs.Request.{Outcome, stateOf, stateNumber, handled}
 use Rattle.claims.specs.Phys.{Moved, moved-refl, named, setNow, set-by, errors-by, set-moved, errors-moved}
 use Rattle.claims.specs.Disks.{passed-length}

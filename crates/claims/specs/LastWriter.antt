@@ -13,8 +13,8 @@ use Rattle.layout.specs.Layout.{phyCount}
 use Rattle.file.specs.File.{phyAt}
 use Rattle.disk.specs.Disk.{command, lba}
 use Rattle.disk.specs.Laws.{sector, replyStatus, covers}
-use Rattle.passthrough.specs.declared.Selection.{Selection}
-use Rattle.passthrough.specs.Select.{selectBy}
+use Rattle.select.specs.declared.Selection.{Selection}
+use Rattle.select.specs.Select.{selectBy}
 use Rattle.passthrough.specs.Passthrough.{phyAsked, portAsked, diskOf}
 use Rattle.header.specs.Header.{controlCode, bodyOf}
 use Rattle.claims.specs.Run.{Reply, Exchange}

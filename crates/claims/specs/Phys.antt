@@ -1,7 +1,7 @@
 -- What codes 21 and 22 do to the phys: which they keep, and which programmed rates they set. Assumes nothing.
-use mathlib.Core.Path.{_≡_, refl, sym, _∙_, ap}
+use mathlib.Core.Path.{_≡_, refl, sym, _∙_}
 use mathlib.Core.Logic.{_≢_}
-use mathlib.Core.Bool.{Bool, true, false, cond, _&&_, not}
+use mathlib.Core.Bool.{Bool, true, cond, _&&_, not}
 use mathlib.Core.List.{List}
 use Prim.Native.Nat.{ℕ, _<_, _≤_}
 use native.Mathlib.Omega.{arith}
@@ -10,22 +10,21 @@ use lib.Dec.{eqb, leb, ltb}
 use lib.ListN.{length, getD, length-set}
 use borrow.Author.Tests.{eq-eqb, ne-eqb, ltb-true}
 use Rattle.laws.specs.Choice.{by-bool, either, either-by}
-use Rattle.codes.specs.Codes.{success, phyInfoChanged}
+use Rattle.codes.specs.Codes.{success}
 use Rattle.phy.specs.declared.Phy.{Phy}
 use Rattle.phy.specs.Entity.{programmedMinimum, programmedMaximum}
 use Rattle.phy.specs.Change.{cleared, configured}
 use Rattle.phy.specs.Kept.{Kept, Settings, kept-refl, kept-trans, settings-refl}
 use Rattle.phy.specs.Changed.{kept-cleared, settings-cleared, kept-configured, minimum-configured, maximum-configured}
-use Rattle.link.specs.Rule.{reset, disabled}
 use Rattle.link.specs.Kept.{kept-reset, settings-reset, kept-disabled, settings-disabled}
 use Rattle.adapter.specs.declared.Adapter.{Adapter}
 use Rattle.adapter.specs.Adapter.{phyIn, withPhy}
 use Rattle.adapter.specs.Store.{phy-stored, phy-other, counts-stored}
-use Rattle.changes.specs.declared.PhySetting.{PhySetting}
-use Rattle.changes.specs.declared.Change.{Change}
-use Rattle.changes.specs.Changed.{keeps, stores, applied, Served, gives, servedBy, Changed, leaves, left}
-use Rattle.changes.specs.SetPhyInfo.{asked, resulting, parametersHold, ratesHold, linked, setTo, setChecked, setPhy, phySet, setPhyInfo}
-use Rattle.changes.specs.LinkErrors.{afterReset, linkErrors, reported}
+use Rattle.set_phy_info.specs.declared.PhySetting.{PhySetting}
+use Rattle.change.specs.declared.Change.{Change}
+use Rattle.change.specs.Changed.{keeps, stores, applied, Served, gives, servedBy, Changed, leaves, left}
+use Rattle.set_phy_info.specs.SetPhyInfo.{asked, resulting, parametersHold, ratesHold, linked, setTo, setChecked, setPhy, phySet, setPhyInfo}
+use Rattle.link_errors.specs.LinkErrors.{afterReset, linkErrors, reported}
 
 -- ---- a phy that code 21 sets
 

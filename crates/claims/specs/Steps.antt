@@ -1,11 +1,11 @@
 -- One request at two levels: a denied one changes its return code alone, one that is not denied does the same at a higher level, and
 -- the level stays. Assumes nothing.
-use mathlib.Core.Path.{_≡_, refl, sym, _∙_}
+use mathlib.Core.Path.{_≡_, refl}
 use mathlib.Core.Bool.{Bool, true, false, cond, _&&_}
 use mathlib.Core.List.{List}
 use Prim.Native.Nat.{ℕ, _≤_}
 use native.Mathlib.Omega.{arith}
-use lib.Dec.{eqb, ltb}
+use lib.Dec.{eqb}
 use lib.ListN.{length}
 use borrow.Author.Tests.{le-ltb, le-leb, ltb-false}
 use Rattle.laws.specs.Choice.{by-bool, both-left, both-right, either}
@@ -18,7 +18,7 @@ use Rattle.state.specs.declared.State.{State}
 use Rattle.state.specs.State.{stateHolds}
 use Rattle.header.specs.Table.{need}
 use Rattle.header.specs.Header.{controlCode, bodyOf, headerCode, above, accessCode}
-use Rattle.dispatch.specs.Request.{Outcome, stateNumber, bufferNumber, callNumber, untouched, answered, replied, answeredAt, handled}
+use Rattle.dispatch.specs.Request.{Outcome, stateNumber, bufferNumber, callNumber, untouched, answered, answeredAt, handled}
 use Rattle.claims.specs.Run.{denied}
 
 -- ---- denied

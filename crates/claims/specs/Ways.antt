@@ -1,11 +1,11 @@
 -- The ways that a request can go, so that a claim shows each of them once, and what its reply tells. Assumes nothing.
-use mathlib.Core.Path.{_≡_, refl, sym, _∙_, ap}
-use mathlib.Core.Bool.{Bool, true, false, cond, _&&_}
+use mathlib.Core.Path.{_≡_, refl, _∙_}
+use mathlib.Core.Bool.{true, false}
 use mathlib.Core.List.{List, _++_}
-use Prim.Native.Nat.{ℕ, _+_, _^_, _<_, _≤_}
+use Prim.Native.Nat.{ℕ, _+_, _<_, _≤_}
 use native.Mathlib.Omega.{arith}
-use lib.Dec.{eqb, leb, ltb}
-use lib.ListN.{length, getD, take, drop, length-append}
+use lib.Dec.{eqb}
+use lib.ListN.{length, take, length-append}
 use lib.Seq.{length-take-le, getD-drop, getD-append-add}
 use borrow.Author.Tests.{ne-eqb, eqb-true, eqb-false}
 use Rattle.laws.specs.Choice.{either, either-by}
@@ -16,19 +16,18 @@ use Rattle.level.specs.declared.Level.{Level}
 use Rattle.disk.specs.Laws.{replyStatus}
 use Rattle.adapter.specs.declared.Adapter.{Adapter}
 use Rattle.adapter.specs.Adapter.{mediumSize}
-use Rattle.changes.specs.Changed.{left as changedBy}
-use Rattle.changes.specs.SetPhyInfo.{setPhyInfo as setInfo}
-use Rattle.changes.specs.LinkErrors.{linkErrors}
+use Rattle.change.specs.Changed.{left as changedBy}
+use Rattle.set_phy_info.specs.SetPhyInfo.{setPhyInfo as setInfo}
+use Rattle.link_errors.specs.LinkErrors.{linkErrors}
 use Rattle.passthrough.specs.Passthrough.{passthrough}
 use Rattle.state.specs.declared.State.{State}
 use Rattle.state.specs.State.{stateHolds}
 use Rattle.header.specs.Table.{structureSize, dataSize}
 use Rattle.header.specs.Header.{headerLength, controlCode, lengthField, bodyOf, signatureHolds, lengthHolds, codeChecked, headerCode, above, accessCode}
 use Rattle.header.specs.Laws.{access-room}
-use Rattle.dispatch.specs.Serve.{Served, reported, changed, passed, reportOf, served}
+use Rattle.service.specs.Serve.{Served, reported, changed, passed, reportOf, served}
 use Rattle.dispatch.specs.Laws.{heard-state, heard-medium, heard-buffer}
 use Rattle.dispatch.specs.Request.{Outcome, callNumber, untouched, inBuffer, refused, answered, replied, answeredAt, handled}
-use Rattle.claims.specs.Run.{Reply}
 use Rattle.claims.specs.LastWriter.{granted}
 
 -- ---- a request that passed the level check

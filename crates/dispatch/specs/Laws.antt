@@ -2,77 +2,35 @@
 use mathlib.Core.Path.{_≡_, refl, sym, _∙_, ap}
 use mathlib.Core.Bool.{Bool, true, false, cond}
 use mathlib.Core.List.{List, [], _++_, append-nil}
-use Prim.Native.Nat.{ℕ, _+_, _-_, _<_, _≤_}
-use native.Mathlib.Nat.{le-refl, le-trans, le-add-right}
+use Prim.Native.Nat.{ℕ, _+_, _-_, _≤_}
+use native.Mathlib.Nat.{le-refl}
 use native.Mathlib.Omega.{arith}
 use lib.Dec.{eqb, ltb}
 use lib.ListN.{length, take, drop, drop-of-length-le, length-drop}
 use borrow.Author.Tests.{eqb-true, eqb-false, ltb-false}
 use Rattle.laws.specs.Choice.{by-bool, came-then, came-else}
 use Rattle.laws.specs.Splice.{splice, rest}
-use Rattle.codes.specs.Codes.{stpPassthru, shortBuffer}
+use Rattle.codes.specs.Codes.{shortBuffer}
 use Rattle.wire.specs.Number.{bytes}
 use Rattle.level.specs.declared.Level.{Level}
 use Rattle.adapter.specs.declared.Adapter.{Adapter}
-use Rattle.disk.specs.Disk.{dataLength}
 use Rattle.header.specs.Table.{structureSize, dataSize}
 use Rattle.header.specs.Header.{controlCode, bodyOf, accessCode}
 use Rattle.state.specs.declared.State.{State}
 use Rattle.state.specs.State.{stateHolds}
 use Rattle.state.specs.Laws.{state-phys, state-rows}
 use Rattle.adapter.specs.Adapter.{mediumSize}
-use Rattle.changes.specs.declared.Change.{Change}
-use Rattle.changes.specs.Changed.{Served as Result, Changed, keeps, applied, servedBy, left}
-use Rattle.reports.specs.Report.{Report, report}
-use Rattle.passthrough.specs.Passthrough.{Passed, leaves as passes}
-use Rattle.dispatch.specs.Serve.{leaves, changed, reported, passed, served}
+use Rattle.change.specs.declared.Change.{Change}
+use Rattle.change.specs.Changed.{keeps, applied, servedBy}
+use Rattle.service.specs.Serve.{leaves, changed, served}
 use Rattle.dispatch.specs.Request.{outcome, stateNumber, bufferNumber, callNumber, untouched, answer, inBuffer, refused, answered, stateOf, replies, replied, answeredAt}
 
--- ---- rooms
+-- ---- a code that a callee gave
 
--- the structure of a code that was tested
-pub room : (control code k n : ℕ) → control ≡ code → structureSize control ≤ n → structureSize code ≡ k → k ≤ n
-room control code k n e h s = rw (← s, ← e) h
-
--- the same, and where its data is counted too
-pub room-and-data : (control code k d n : ℕ) → control ≡ code → structureSize control + d ≤ n → structureSize code ≡ k → k ≤ n
-room-and-data control code k d n e h s = rw (← s, ← e) (le-trans (le-add-right (structureSize control) d) h)
-
-pub structure-part : (size d n : ℕ) → size + d ≤ n → size ≤ n
-structure-part size d n h = le-trans (le-add-right size d) h
-
-pub passthrough-lent : (control n : ℕ) (body : List ℕ) → control ≡ stpPassthru → structureSize control + dataSize control body ≤ n → 136 + dataLength body ≤ n
-unfolding structureSize dataSize
-passthrough-lent control n body e h = rw e at h
-
--- ---- what a call left
-
-pub changed-by : (ad : Adapter) (c : Change) (medium body : List ℕ) (x : Changed) → left (servedBy ad c) body ≡ x
-    → leaves (c .code) (applied ad c) medium body ≡ changed medium x
-changed-by ad c medium body x e = ap (changed medium) e
-
-pub set-by : (ad : Adapter) (c : Change) (s : Result) (medium body : List ℕ) → servedBy ad c ≡ s
-    → leaves (c .code) (applied ad c) medium body ≡ changed medium (left s body)
-set-by ad c s medium body e = ap (λ (r : Result). changed medium (left r body)) e
-
--- where no phy is stored
-module _ (ad : Adapter) (code : ℕ) (c : Change) (e : c ≡ keeps code) where
-  pub reported-by : (body : List ℕ) (r : Report) → report code body ≡ r → left (servedBy ad c) body ≡ reported ad r
-  unfolding keeps applied
-  reported-by body r p = rw e (ap (reported ad) p)
-
-  pub passed-by : (medium body : List ℕ) (p : Passed) → passes code medium body ≡ p → leaves (c .code) (applied ad c) medium body ≡ passed ad p
-  unfolding keeps applied
-  passed-by medium body p q = rw e (ap (passed ad) q)
-
-  -- a code that a callee gave
-  pub refused-by : (n : ℕ) (medium buffer : List ℕ) → code ≡ n → answer (servedBy ad c) medium buffer ≡ refused n ad medium buffer
-  unfolding keeps applied
-  refused-by n medium buffer p = rw (e, p) refl
-
-  pub kept-number : c .number .0 < 32
-  unfolding keeps
-  kept-number = rw e (omega arith)
+pub refused-by : (ad : Adapter) (code : ℕ) (c : Change) → c ≡ keeps code → (n : ℕ) (medium buffer : List ℕ) → code ≡ n
+    → answer (servedBy ad c) medium buffer ≡ refused n ad medium buffer
+unfolding keeps applied
+refused-by ad code c e n medium buffer p = rw (e, p) refl
 
 -- ---- the body, lent as the rest of the buffer
 

@@ -10,14 +10,14 @@ use Rattle.codes.specs.Codes.{success, shortBuffer, mediumLength, badState}
 use Rattle.wire.specs.Number.{bytes}
 use Rattle.level.specs.declared.Level.{Level}
 use Rattle.adapter.specs.declared.Adapter.{Adapter}
-use Rattle.changes.specs.declared.Change.{Change}
-use Rattle.changes.specs.Changed.{applied, Served as Result}
+use Rattle.change.specs.declared.Change.{Change}
+use Rattle.change.specs.Changed.{applied, Served as Result}
 use Rattle.state.specs.declared.State.{State}
 use Rattle.state.specs.State.{stateHolds}
 use Rattle.adapter.specs.Adapter.{mediumSize}
 use Rattle.header.specs.Header.{controlCode, bodyOf, accessCode}
 use Rattle.dispatch.specs.declared.Handled.{Handled}
-use Rattle.dispatch.specs.Serve.{Served, served}
+use Rattle.service.specs.Serve.{Served, served}
 
 -- what a call leaves
 pub record Outcome : Type 0 where

@@ -1,9 +1,8 @@
 // The call that handles one request.
 use crate::Handled;
-use crate::serve::serve;
 use adapter::Adapter;
-use changes::Change;
-use changes::unchanged;
+use change::Change;
+use change::unchanged;
 use level::Level;
 use state::State;
 ghost use mathlib.Core.Path.{_≡_};
@@ -12,8 +11,8 @@ ghost use lib.ListN.{length};
 ghost use Rattle.adapter.specs.Adapter.{mediumSize};
 ghost use Rattle.header.specs.Table.{structureSize, dataSize};
 ghost use Rattle.header.specs.Header.{controlCode, bodyOf, accessCode};
-ghost use Rattle.changes.specs.Changed.{servedBy};
-ghost use Rattle.dispatch.specs.Serve.{served};
+ghost use Rattle.change.specs.Changed.{servedBy};
+ghost use Rattle.service.specs.Serve.{served};
 ghost use Rattle.dispatch.specs.Request.{outcome, stateNumber, bufferNumber, callNumber, answer, inBuffer, answered, stateOf, replies, answeredAt, handled};
 
 // The body behind the header is lent to the code's own checks and effect.
@@ -27,7 +26,7 @@ fn serve_body(adapter: Adapter, medium: &mut [u8], buffer: &mut [u8]) -> Change
     ensures { λ c. ⌜ c .number .0 < 32 ⌝ }
 {
     let control = header::control_code(buffer);
-    serve(adapter, medium, control, &mut buffer[28..])
+    service::serve(adapter, medium, control, &mut buffer[28..])
 }
 
 // The header's checks and the level, and then the code's own.
@@ -72,7 +71,7 @@ fn handle(state: State, medium: &mut [u8], buffer: &mut [u8]) -> Handled
     let level = state.level;
     let adapter = state.adapter;
     let c = reply(level, adapter, medium, buffer);
-    let adapter = changes::apply(adapter, c);
+    let adapter = change::apply(adapter, c);
     Handled {
         call: 0,
         state: State { level, adapter },

@@ -2,7 +2,6 @@
 // request. Each is determined by equation from its inputs, after refusals as after success, and neither has a `requires`. The opening only
 // reads the medium.
 mod handle;
-mod serve;
 
 pub use handle::buffer_number;
 pub use handle::reply;

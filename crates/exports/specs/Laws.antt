@@ -17,8 +17,8 @@ use Rattle.state.specs.Open.{openedOf}
 use Rattle.level.specs.declared.Level.{Level}
 use Rattle.adapter.specs.declared.Adapter.{Adapter}
 use Rattle.adapter.specs.Adapter.{withPhy, mediumSize}
-use Rattle.changes.specs.declared.Change.{Change}
-use Rattle.changes.specs.Changed.{keeps, applied}
+use Rattle.change.specs.declared.Change.{Change}
+use Rattle.change.specs.Changed.{keeps, applied}
 use Rattle.dispatch.specs.Request.{Outcome, outcome, stateNumber, bufferNumber, callNumber, stateOf, replies, untouched, answeredAt, handled}
 use Rattle.dispatch.specs.Laws.{called, heard-phys, heard-rows, heard-medium, heard-buffer}
 use Rattle.claims.specs.Run.{Reply, End, replyOf, entryOf, preceded, run}

@@ -1,6 +1,6 @@
 // A session in the program's format: each request a 4-byte length, then its bytes.
 use adapter::Adapter;
-use changes::Change;
+use change::Change;
 use dispatch::State;
 use level::Level;
 ghost use mathlib.Core.Path.{_≡_};
@@ -9,7 +9,7 @@ ghost use Prim.Native.Nat.{_/_, _<_, _≤_};
 ghost use lib.ListN.{length};
 ghost use Rattle.wire.specs.Number.{bytes};
 ghost use Rattle.adapter.specs.Adapter.{mediumSize};
-ghost use Rattle.changes.specs.Changed.{applied};
+ghost use Rattle.change.specs.Changed.{applied};
 ghost use Rattle.dispatch.specs.Request.{stateOf, stateNumber, answeredAt, handled};
 ghost use Rattle.claims.specs.Held.{Sized};
 ghost use Rattle.exports.specs.Session.{endFrom, left, afterRequest, turned, ran, ranFrom};
@@ -90,7 +90,7 @@ fn handle(
         return reply(level, adapter, medium, buffer, line);
     }
     write_line(line, call, NO_CODE);
-    changes::unchanged(codes::SUCCESS)
+    change::unchanged(codes::SUCCESS)
 }
 
 // The same of a request behind its length.

@@ -1,77 +1,28 @@
--- What a selection tells, and what the proofs of this crate cite. Assumes nothing.
-use mathlib.Core.Path.{_≡_, refl, _∙_, ap}
-use mathlib.Core.Bool.{Bool, true, false, cond, _&&_, not}
+-- What the proofs of this crate cite. Assumes nothing.
+use mathlib.Core.Path.{_≡_, _∙_, ap}
 use mathlib.Core.List.{List, _++_}
-use Prim.Native.Nat.{ℕ, _+_, _-_, _*_, _<_, _≤_}
+use Prim.Native.Nat.{ℕ, _+_, _-_, _*_, _≤_}
 use native.Mathlib.Nat.{add-sub-cancel-left}
 use native.Mathlib.Omega.{arith}
-use lib.Dec.{eqb, leb}
 use lib.ListN.{length, take, drop}
-use borrow.Author.Tests.{le-leb, leb-false}
-use Rattle.laws.specs.Choice.{by-bool, not-false, either-by, came-else}
 use Rattle.laws.specs.Splice.{part, length-part, lent-back}
-use Rattle.codes.specs.Codes.{selectPhyOrPort, phyDoesNotExist, portDoesNotExist, phyDoesNotMatchPort}
 use Rattle.phy.specs.declared.PhyIdentifier.{PhyIdentifier}
 use Rattle.phy.specs.declared.PortIdentifier.{PortIdentifier}
 use Rattle.adapter.specs.declared.Adapter.{Adapter}
 use Rattle.adapter.specs.Adapter.{mediumSize}
 use Rattle.disk.specs.Disk.{dataLength, left, served, Served}
 use Rattle.disk.specs.Laws.{disk-length}
-use Rattle.passthrough.specs.declared.Selection.{Selection}
+use Rattle.select.specs.declared.Selection.{Selection}
+use Rattle.select.specs.Select.{selectIn}
+use Rattle.select.specs.Laws.{below}
 use Rattle.passthrough.specs.Passthrough.{leaves, putBack, onDisk}
-use Rattle.passthrough.specs.Select.{phyGiven, portGiven, selected, none, selection, selectBy, selectIn}
 
--- ---- a phy that does not exist has no port to look at
+-- the disk of a phy that was selected stands within the medium
+pub selected-disk : (ad : Adapter) (phy : PhyIdentifier) (port : PortIdentifier) (s : Selection) → s ≡ selectIn ad phy port → s .code ≡ 0
+    → (medium : List ℕ) → length medium ≡ mediumSize ad → 8192 * s .phy .0 + 8192 ≤ length medium
+selected-disk ad phy port s e h medium k = omega (arith, below ad phy port s e h)
 
-pub selection-past : (phy : PhyIdentifier) (port : PortIdentifier) (p lowest : ℕ) (own own′ : PortIdentifier) (r : Selection) → p ≤ phy .0
-    → r ≡ selection phy port p lowest own → r ≡ selection phy port p lowest own′
-unfolding selection
-selection-past phy port p lowest own own′ r h e =
-    e
-    ∙ by-bool (λ (g : Bool). phyGiven phy ≡ g → selection phy port p lowest own ≡ selection phy port p lowest own′)
-    (λ g. rw (g, le-leb p (phy .0) h) refl) (λ g. rw g refl) (phyGiven phy) refl
-
--- the lowest phy of a port that is not given does not matter
-pub selection-portless : (phy : PhyIdentifier) (port : PortIdentifier) (p lowest lowest′ : ℕ) (own : PortIdentifier) (given : Bool) (r : Selection) → given ≡ portGiven port
-    → given ≡ false → r ≡ selection phy port p lowest own → r ≡ selection phy port p lowest′ own
-unfolding selection
-selection-portless phy port p lowest lowest′ own given r f h e =
-    e
-    ∙ by-bool (λ (g : Bool). phyGiven phy ≡ g → selection phy port p lowest own ≡ selection phy port p lowest′ own) (λ g. rw (g, ← f, h) refl)
-    (λ g. rw (g, ← f, h) refl) (phyGiven phy) refl
-
--- ---- a phy that was selected is below p
-
-Accepts : Selection → Type 0
-Accepts s = s .code ≡ 0
-
-pub selected-below : (phy : PhyIdentifier) (port : PortIdentifier) (p lowest : ℕ) (own : PortIdentifier)
-    → selection phy port p lowest own .code ≡ 0 → selection phy port p lowest own .phy .0 < p
-unfolding selection Accepts
-selected-below phy port p lowest own h =
-    let a = came-else Accepts (not (phyGiven phy) && not (portGiven port)) (λ e. omega arith) h in
-    let b = came-else Accepts (phyGiven phy && leb p (phy .0)) (λ e. omega arith) (a .1) in
-    let c = came-else Accepts (portGiven port && leb p lowest) (λ e. omega arith) (b .1) in
-    let d = came-else Accepts (phyGiven phy && portGiven port && not (eqb (own .0) (port .0))) (λ e. omega arith) (c .1) in
-    rw (a .0, b .0, c .0, d .0)
-    (either-by (λ (s : Selection). s .phy .0 < p) (phyGiven phy) (λ e. leb-false p (phy .0) (rw e at (b .0)))
-    (λ e. let g : portGiven port ≡ true = not-false (portGiven port) (rw e at (a .0)) in
-    leb-false p lowest (rw g at (c .0))))
-
-module _ (ad : Adapter) (phy : PhyIdentifier) (port : PortIdentifier) (s : Selection) (e : s ≡ selectIn ad phy port) (h : s .code ≡ 0) where
-  below : s .phy .0 < ad .«phy_count»
-  unfolding selectBy
-  below = rw e (selected-below phy port (ad .«phy_count») _ _ (rw e at h))
-
-  pub selected-phy : ad .«phy_count» ≤ 32 → s .phy .0 < 32
-  selected-phy k = omega (arith, below)
-
-  -- its disk stands within the medium
-  pub selected-disk : (medium : List ℕ) → length medium ≡ mediumSize ad → 8192 * s .phy .0 + 8192 ≤ length medium
-  selected-disk medium k = omega (arith, below)
-
--- ---- a disk that was lent
-
+-- a disk that was lent
 pub on-disk-left : (medium body : List ℕ) (n code : ℕ) (d b : List ℕ) → 8192 * n + 8192 ≤ length medium → 136 + dataLength body ≤ length body
     → left code d b ≡ served (take (8192 * n + 8192 - 8192 * n) (drop (8192 * n) medium)) body
     → leaves code (take (8192 * n) medium ++ (d ++ drop (8192 * n + 8192 - 8192 * n) (drop (8192 * n) medium))) b ≡ onDisk medium n body

@@ -1,3 +1,2 @@
-pub mod Select
 pub mod Passthrough
 pub mod Laws

@@ -14,8 +14,8 @@ use Rattle.fields.specs.Rules.{isRate}
 use Rattle.disk.specs.Disk.{fis, Served, served}
 use Rattle.adapter.specs.declared.Adapter.{Adapter}
 use Rattle.adapter.specs.Adapter.{phyIn}
-use Rattle.passthrough.specs.declared.Selection.{Selection}
-use Rattle.passthrough.specs.Select.{selectIn}
+use Rattle.select.specs.declared.Selection.{Selection}
+use Rattle.select.specs.Select.{selectIn}
 
 -- the return code, the medium and the body that a request leaves
 pub record Passed : Type 0 where

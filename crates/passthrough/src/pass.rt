@@ -1,16 +1,16 @@
 // Code 25, STP passthrough.
-use crate::Selection;
-use crate::select_phy;
 use adapter::Adapter;
 use phy::Phy;
 use phy::PhyIdentifier;
 use phy::PortIdentifier;
+use select::Selection;
+use select::select_phy;
 ghost use mathlib.Core.Path.{_≡_};
 ghost use Prim.Native.Nat.{_+_, _*_, _<_, _≤_};
 ghost use lib.ListN.{length};
 ghost use Rattle.disk.specs.Disk.{dataLength};
 ghost use Rattle.adapter.specs.Adapter.{mediumSize, phyIn};
-ghost use Rattle.passthrough.specs.Select.{selectIn};
+ghost use Rattle.select.specs.Select.{selectIn};
 ghost use Rattle.passthrough.specs.Passthrough.{leaves, phyAsked, portAsked, connectionRate, destinationOf, formHolds, connected, onDisk, sentTo, passedTo, passthrough};
 
 // A register host-to-device FIS.

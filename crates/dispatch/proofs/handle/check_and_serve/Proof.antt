@@ -1,5 +1,6 @@
 -- `dispatch::handle::check_and_serve` meets its contract. Assumes nothing.
-use Rattle.dispatch.specs.Laws.{kept-number, refused-by}
+use Rattle.change.specs.Laws.{below-kept}
+use Rattle.dispatch.specs.Laws.{refused-by}
 use Rattle.dispatch.specs.Request.{answered}
 use Rattle.header.specs.Laws.{access-room}
 use Rattle.laws.specs.Choice.{picks}
@@ -11,4 +12,4 @@ pub check-and-serve-spec : {M : Type 1} → statement M
 unfolding answered
 check-and-serve-spec =
     tie.close
-    (tie.spec (λ c κs. search needs) (λ c κs. (search needs, (search needs, (search needs, (search needs, search (access-room, needs)))))) (λ c. search needs) (λ c. search needs) (λ c. (search picks, search needs)) (λ c κs. search needs) (λ c. search needs) (λ c. (search (refused-by, picks), search (kept-number, needs))))
+    (tie.spec (λ c κs. search needs) (λ c κs. (search needs, (search needs, (search needs, (search needs, search (access-room, needs)))))) (λ c. search needs) (λ c. search needs) (λ c. (search picks, search needs)) (λ c κs. search needs) (λ c. search needs) (λ c. (search (refused-by, picks), search (below-kept, needs))))

@@ -1,5 +1,5 @@
 -- `exports::session::handle` meets its contract. Assumes nothing.
-use Rattle.changes.specs.Laws.{below-kept}
+use Rattle.change.specs.Laws.{below-kept}
 use Rattle.exports.specs.Laws.{handled-refused, handled-replied, reply-buffer, reply-medium, reply-phys, reply-rows}
 use borrow.Author.Needs.{needs}
 use Rattle.exports.proofs.session.handle.Statement.{statement}

@@ -1,7 +1,8 @@
 -- `passthrough::pass::pass_to` meets its contract. Assumes nothing.
 use borrow.Author.Needs.{needs}
 use Rattle.laws.specs.Choice.{picks}
-use Rattle.passthrough.specs.Laws.{selected-phy, selected-disk}
+use Rattle.passthrough.specs.Laws.{selected-disk}
+use Rattle.select.specs.Laws.{selected-phy}
 use Rattle.passthrough.specs.Passthrough.{passedTo}
 use Rattle.passthrough.proofs.pass.pass_to.Statement.{statement}
 use Rattle.passthrough.proofs.pass.pass_to.Tie as tie

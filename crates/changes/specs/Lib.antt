@@ -1,4 +1,0 @@
-pub mod Changed
-pub mod SetPhyInfo
-pub mod LinkErrors
-pub mod Laws

@@ -1,9 +1,0 @@
--- `passthrough::select::has_port` meets its contract. Assumes nothing.
-use borrow.Author.Needs.{needs}
-use Rattle.passthrough.proofs.select.has_port.Statement.{statement}
-use Rattle.passthrough.proofs.select.has_port.Tie as tie
-
-pub has-port-spec : {M : Type 1} → statement M
-has-port-spec =
-    tie.close
-    (tie.spec (λ c. search needs) (λ c. search needs) (λ c κs. search needs) (λ c. cc))

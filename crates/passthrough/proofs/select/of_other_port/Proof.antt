@@ -1,9 +1,0 @@
--- `passthrough::select::of_other_port` meets its contract. Assumes nothing.
-use borrow.Author.Needs.{needs}
-use Rattle.passthrough.proofs.select.of_other_port.Statement.{statement}
-use Rattle.passthrough.proofs.select.of_other_port.Tie as tie
-
-pub of-other-port-spec : {M : Type 1} → statement M
-of-other-port-spec =
-    tie.close
-    (tie.spec (λ c κs. search needs) (λ c κs. search needs) (λ c. cc))

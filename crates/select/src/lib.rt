@@ -1,0 +1,174 @@
+// The phy that a code 25 selects (document 01, "Request"), by a phy identifier, a port identifier, or both.
+use adapter::Adapter;
+use phy::Phy;
+use phy::PhyIdentifier;
+use phy::PortIdentifier;
+ghost use mathlib.Core.Path.{_≡_};
+ghost use mathlib.Core.Bool.{_&&_, not};
+ghost use Prim.Native.Nat.{ℕ, _<_, _≤_};
+ghost use lib.Dec.{eqb, leb};
+ghost use lib.ListN.{getD};
+ghost use Rattle.phy.specs.Block.{noPhy};
+ghost use Rattle.phy.specs.Entity.{portOf};
+ghost use Rattle.select.specs.Select.{phyGiven, portGiven, lowestOf, selection, none, selected, portIn, selectIn};
+
+// The phy that was selected, where code is 0.
+pub struct Selection {
+    pub code: u32,
+    pub phy: PhyIdentifier,
+}
+
+// USE_PORT_IDENTIFIER: no phy is given.
+const NO_PHY: u8 = 0xff;
+
+// IGNORE_PORT: no port is given.
+const NO_PORT: u8 = 0xff;
+
+fn phy_given(phy: PhyIdentifier) -> bool
+    ensures { λ r. ⌜ r ≡ phyGiven phy ⌝ }
+{
+    phy.0 != NO_PHY
+}
+
+fn port_given(port: PortIdentifier) -> bool
+    ensures { λ r. ⌜ r ≡ portGiven port ⌝ }
+{
+    port.0 != NO_PORT
+}
+
+fn neither_given(phy: PhyIdentifier, port: PortIdentifier) -> bool
+    ensures { λ r. ⌜ r ≡ not (phyGiven phy) && not (portGiven port) ⌝ }
+{
+    !phy_given(phy) & !port_given(port)
+}
+
+fn no_such_phy(phy: PhyIdentifier, p: u8) -> bool
+    ensures { λ r. ⌜ r ≡ phyGiven phy && leb p (phy .0) ⌝ }
+{
+    phy_given(phy) & (p <= phy.0)
+}
+
+fn no_such_port(port: PortIdentifier, p: u8, lowest: u8) -> bool
+    ensures { λ r. ⌜ r ≡ portGiven port && leb p lowest ⌝ }
+{
+    port_given(port) & (p <= lowest)
+}
+
+fn of_other_port(phy: PhyIdentifier, port: PortIdentifier, own: PortIdentifier) -> bool
+    ensures { λ r. ⌜ r ≡ phyGiven phy && portGiven port && not (eqb (own .0) (port .0)) ⌝ }
+{
+    phy_given(phy) & port_given(port) & (own.0 != port.0)
+}
+
+fn none(code: u32) -> Selection
+    ensures { λ r. ⌜ r ≡ none code ⌝ }
+{
+    Selection {
+        code,
+        phy: PhyIdentifier(0),
+    }
+}
+
+fn selected(phy: PhyIdentifier) -> Selection
+    ensures { λ r. ⌜ r ≡ selected phy ⌝ }
+{
+    Selection {
+        code: codes::SUCCESS,
+        phy,
+    }
+}
+
+// With the lowest phy of the port, and the phy's own port.
+fn judge(
+    phy: PhyIdentifier,
+    port: PortIdentifier,
+    p: u8,
+    lowest: u8,
+    own: PortIdentifier,
+) -> Selection
+    ensures { λ r. ⌜ r ≡ selection phy port p lowest own ⌝ }
+{
+    if neither_given(phy, port) {
+        return none(codes::SELECT_PHY_OR_PORT);
+    }
+    if no_such_phy(phy, p) {
+        return none(codes::PHY_DOES_NOT_EXIST);
+    }
+    if no_such_port(port, p, lowest) {
+        return none(codes::PORT_DOES_NOT_EXIST);
+    }
+    if of_other_port(phy, port, own) {
+        return none(codes::PHY_DOES_NOT_MATCH_PORT);
+    }
+    if phy_given(phy) {
+        return selected(phy);
+    }
+    selected(PhyIdentifier(lowest))
+}
+
+fn has_port(phys: [Phy; 32], n: u8, port: PortIdentifier) -> bool
+    requires { ⌜ n < 32 ⌝ }
+    ensures { λ r. ⌜ r ≡ eqb (portOf (getD phys n noPhy) .0) (port .0) ⌝ }
+{
+    let phy = phys[n as usize];
+    let own = phy.port();
+    own.0 == port.0
+}
+
+// The first phy of a port, or p.
+fn lowest(phys: [Phy; 32], p: u8, port: PortIdentifier) -> u8
+    requires { ⌜ p ≤ 32 ⌝ }
+    ensures { λ r. ⌜ r ≡ lowestOf (λ (n : ℕ). portOf (getD phys n noPhy)) p port ⌝ }
+{
+    let mut i = 0;
+    while i < p {
+        if has_port(phys, i, port) {
+            return i;
+        }
+        i += 1;
+    }
+    p
+}
+
+// A phy that exists, and its own port.
+fn select_existing(
+    adapter: Adapter,
+    phy: PhyIdentifier,
+    port: PortIdentifier,
+    lowest: u8,
+) -> Selection
+    requires { ⌜ phy .0 < 32 ⌝ }
+    ensures { λ r. ⌜ r ≡ selection phy port (adapter .«phy_count») lowest (portIn adapter (phy .0)) ⌝ }
+{
+    judge(
+        phy,
+        port,
+        adapter.phy_count,
+        lowest,
+        adapter.phy(phy).port(),
+    )
+}
+
+fn select_from(adapter: Adapter, phy: PhyIdentifier, port: PortIdentifier, lowest: u8) -> Selection
+    requires { ⌜ adapter .«phy_count» ≤ 32 ⌝ }
+    ensures { λ r. ⌜ r ≡ selection phy port (adapter .«phy_count») lowest (portIn adapter (phy .0)) ⌝ }
+{
+    if phy.0 < adapter.phy_count {
+        return select_existing(adapter, phy, port, lowest);
+    }
+    judge(phy, port, adapter.phy_count, lowest, port)
+}
+
+// The phy for a phy identifier and a port identifier, each of which may stand for none.
+pub fn select_phy(adapter: Adapter, phy: PhyIdentifier, port: PortIdentifier) -> Selection
+    requires { ⌜ adapter .«phy_count» ≤ 32 ⌝ }
+    ensures { λ r. ⌜ r ≡ selectIn adapter phy port ⌝ }
+{
+    if port_given(port) {
+        let phys = adapter.phys;
+        let lowest = lowest(phys, adapter.phy_count, port);
+        return select_from(adapter, phy, port, lowest);
+    }
+    // no port to look for
+    select_from(adapter, phy, port, 0)
+}

@@ -1,0 +1,59 @@
+-- What a request does once its level is granted: the code's own checks and its effect (document 01, "Request"). Nothing here sees a
+-- level or a header. Assumes nothing.
+use mathlib.Core.Bool.{cond}
+use mathlib.Core.List.{List}
+use Prim.Native.Nat.{ℕ}
+use lib.Dec.{eqb}
+use Rattle.codes.specs.Codes.{getDriverInfo, getPhyInfo, setPhyInfo, getLinkErrors, stpPassthru, getSataSignature, getScsiAddress, getDeviceAddress, badControlCode}
+use Rattle.adapter.specs.declared.Adapter.{Adapter}
+use Rattle.reports.specs.Report.{Report, report}
+use Rattle.reports.specs.DriverInfo.{driverInfo}
+use Rattle.reports.specs.PhyInfo.{phyInfo}
+use Rattle.reports.specs.Signature.{sataSignature}
+use Rattle.reports.specs.ScsiAddress.{scsiAddress}
+use Rattle.reports.specs.DeviceAddress.{deviceAddress}
+use Rattle.change.specs.Changed.{Changed, left as changedBy}
+use Rattle.set_phy_info.specs.SetPhyInfo.{setPhyInfo as setInfo}
+use Rattle.link_errors.specs.LinkErrors.{linkErrors}
+use Rattle.passthrough.specs.Passthrough.{Passed, passthrough}
+
+-- the return code, the tables and counters, the disks and the body that a request leaves
+pub record Served : Type 0 where
+  pub code : ℕ
+  pub adapter : Adapter
+  pub medium : List ℕ
+  pub body : List ℕ
+
+-- the four together
+abbrev pub leaves : ℕ → Adapter → List ℕ → List ℕ → Served
+leaves code ad medium body = record { code = code; adapter = ad; medium = medium; body = body }
+
+-- a request that only reports changes no table
+abbrev pub reported : Adapter → Report → Changed
+reported ad r = record { code = r .code; adapter = ad; body = r .body }
+
+-- one that sees no disk
+abbrev pub changed : List ℕ → Changed → Served
+changed medium c = leaves (c .code) (c .adapter) medium (c .body)
+
+-- one that changes no table
+abbrev pub passed : Adapter → Passed → Served
+passed ad p = leaves (p .code) ad (p .medium) (p .body)
+
+-- codes 1, 20, 26, 27 and 28; no other comes here, since the header's checks refuse it
+unfoldable pub reportOf : Adapter → ℕ → List ℕ → Report
+reportOf ad control body =
+    cond (eqb control getDriverInfo) (driverInfo (ad .info) body)
+    (cond (eqb control getPhyInfo) (phyInfo (ad .phys) (ad .«phy_count») body)
+    (cond (eqb control getSataSignature) (sataSignature ad body)
+    (cond (eqb control getScsiAddress) (scsiAddress (ad .rows) (ad .«row_count») body)
+    (cond (eqb control getDeviceAddress) (deviceAddress (ad .rows) (ad .«row_count») body)
+    (report badControlCode body)))))
+
+-- every code
+unfoldable pub served : Adapter → List ℕ → ℕ → List ℕ → Served
+served ad medium control body =
+    cond (eqb control setPhyInfo) (changed medium (changedBy (setInfo ad body) body))
+    (cond (eqb control getLinkErrors) (changed medium (linkErrors ad body))
+    (cond (eqb control stpPassthru) (passed ad (passthrough ad medium body))
+    (changed medium (reported ad (reportOf ad control body)))))
