@@ -27,8 +27,8 @@ impl Adapter {
         requires { ⌜ n .0 < 32 ⌝ }
         ensures { λ r. ⌜ r ≡ phyIn self (n .0) ⌝ }
     {
-        let phys = self.phys;
-        phys[n.0 as usize]
+        let k = n.0 as usize;
+        self.phys[k]
     }
 
     // The same adapter with another phy there.

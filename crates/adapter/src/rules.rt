@@ -16,15 +16,6 @@ pub fn counts_hold(p: u8, a: u8) -> bool
     (1 <= p) & (p <= 32) & (a <= 64)
 }
 
-// Phy n passes the field rules of an adapter with p phys.
-fn phy_holds(phys: [Phy; 32], n: usize, p: u8) -> bool
-    requires { ⌜ n < 32 ⌝ }
-    ensures { λ r. ⌜ r ≡ fieldsHold (getD phys n noPhy) (record { 0 = n }) p ⌝ }
-{
-    let phy = phys[n];
-    fields::fields_hold(phy, PhyIdentifier(n as u8), p)
-}
-
 fn phys_hold(phys: [Phy; 32], p: u8) -> bool
     requires { ⌜ p ≤ 32 ⌝ }
     ensures { λ r. ⌜ r ≡ allTo (λ (n : ℕ). fieldsHold (getD phys n noPhy) (record { 0 = n }) p) p ⌝ }
@@ -32,7 +23,7 @@ fn phys_hold(phys: [Phy; 32], p: u8) -> bool
     let n = p as usize;
     let mut k = 0;
     while k < n {
-        if phy_holds(phys, k, p) {
+        if fields::fields_hold(phys[k], PhyIdentifier(k as u8), p) {
             k += 1;
         } else {
             return false;
@@ -50,14 +41,6 @@ pub fn fields_hold(adapter: Adapter) -> bool
     phys_hold(phys, adapter.phy_count)
 }
 
-fn phy_zero(phys: [Phy; 32], n: usize) -> bool
-    requires { ⌜ n < 32 ⌝ }
-    ensures { λ r. ⌜ r ≡ phyZero (getD phys n noPhy) ⌝ }
-{
-    let phy = phys[n];
-    fields::is_zero(phy)
-}
-
 fn phys_zero_from(phys: [Phy; 32], p: usize) -> bool
     requires { ⌜ p ≤ 32 ⌝ }
     ensures { λ r. ⌜ r ≡ allTo (λ (i : ℕ). phyZero (getD phys (p + i) noPhy)) (32 - p) ⌝ }
@@ -65,7 +48,7 @@ fn phys_zero_from(phys: [Phy; 32], p: usize) -> bool
     let n = 32 - p;
     let mut k = 0;
     while k < n {
-        if phy_zero(phys, p + k) {
+        if fields::is_zero(phys[p + k]) {
             k += 1;
         } else {
             return false;

@@ -10,20 +10,13 @@ ghost use Rattle.phy.specs.Block.{noPhy};
 ghost use Rattle.link.specs.Rule.{negotiatedHolds};
 ghost use Rattle.link.specs.All.{negotiatedAll};
 
-fn phy_negotiated(phys: [Phy; 32], n: usize) -> bool
-    requires { ⌜ n < 32 ⌝ }
-    ensures { λ r. ⌜ r ≡ negotiatedHolds (getD phys n noPhy) ⌝ }
-{
-    negotiated_holds(phys[n])
-}
-
 fn phys_negotiated(phys: [Phy; 32], p: usize) -> bool
     requires { ⌜ p ≤ 32 ⌝ }
     ensures { λ r. ⌜ r ≡ allTo (λ (n : ℕ). negotiatedHolds (getD phys n noPhy)) p ⌝ }
 {
     let mut k = 0;
     while k < p {
-        if phy_negotiated(phys, k) {
+        if negotiated_holds(phys[k]) {
             k += 1;
         } else {
             return false;

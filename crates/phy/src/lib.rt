@@ -48,37 +48,32 @@ impl Phy {
     pub fn port(self) -> PortIdentifier
         ensures { λ r. ⌜ r ≡ portOf self ⌝ }
     {
-        let e = self.entity;
-        PortIdentifier(e[PORT])
+        PortIdentifier(self.entity[PORT])
     }
 
     pub fn negotiated(self) -> u8
         ensures { λ r. ⌜ r ≡ negotiatedOf self ⌝ }
     {
-        let e = self.entity;
-        e[NEGOTIATED]
+        self.entity[NEGOTIATED]
     }
 
     pub fn programmed_minimum(self) -> u8
         ensures { λ r. ⌜ r ≡ programmedMinimum self ⌝ }
     {
-        let e = self.entity;
-        e[MINIMUM] / 16
+        self.entity[MINIMUM] / 16
     }
 
     pub fn programmed_maximum(self) -> u8
         ensures { λ r. ⌜ r ≡ programmedMaximum self ⌝ }
     {
-        let e = self.entity;
-        e[MAXIMUM] / 16
+        self.entity[MAXIMUM] / 16
     }
 
     // No device is attached.
     pub fn no_device(self) -> bool
         ensures { λ r. ⌜ r ≡ noDevice self ⌝ }
     {
-        let e = self.entity;
-        let device = e[ATTACHED];
+        let device = self.entity[ATTACHED];
         device == 0
     }
 
@@ -86,8 +81,7 @@ impl Phy {
     pub fn is_sata(self) -> bool
         ensures { λ r. ⌜ r ≡ isSata self ⌝ }
     {
-        let e = self.entity;
-        (e[ATTACHED] == 0x10) & (e[PROTOCOLS] % 2 == 1)
+        (self.entity[ATTACHED] == 0x10) & (self.entity[PROTOCOLS] % 2 == 1)
     }
 
     // The attached SAS address is the given one.

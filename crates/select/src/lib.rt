@@ -106,11 +106,9 @@ fn judge(
     selected(PhyIdentifier(lowest))
 }
 
-fn has_port(phys: [Phy; 32], n: u8, port: PortIdentifier) -> bool
-    requires { ⌜ n < 32 ⌝ }
-    ensures { λ r. ⌜ r ≡ eqb (portOf (getD phys n noPhy) .0) (port .0) ⌝ }
+fn has_port(phy: Phy, port: PortIdentifier) -> bool
+    ensures { λ r. ⌜ r ≡ eqb (portOf phy .0) (port .0) ⌝ }
 {
-    let phy = phys[n as usize];
     let own = phy.port();
     own.0 == port.0
 }
@@ -122,7 +120,7 @@ fn lowest(phys: [Phy; 32], p: u8, port: PortIdentifier) -> u8
 {
     let mut i = 0;
     while i < p {
-        if has_port(phys, i, port) {
+        if has_port(phys[i as usize], port) {
             return i;
         }
         i += 1;

@@ -6,4 +6,4 @@ use Rattle.select.proofs.has_port.Tie as tie
 pub has-port-spec : {M : Type 1} → statement M
 has-port-spec =
     tie.close
-    (tie.spec (λ c. search needs) (λ c. search needs) (λ c κs. search needs) (λ c. cc))
+    (tie.spec (λ c κs. search needs) (λ c. cc))

@@ -11,14 +11,13 @@ use Rattle.select.proofs.lowest.Statement.{statement}
 use Rattle.select.proofs.lowest.Tie as tie
 
 abbrev Inv-loop : tie.InvT-loop
-Inv-loop phys p port i₀ i = (i ≤ p) × (first (λ (n : ℕ). eqb (portOf (getD phys n noPhy) .0) (port .0)) p ≡ firstFrom (λ (n : ℕ). eqb (portOf (getD phys n noPhy) .0) (port .0)) i (p - i))
+Inv-loop p port phys i₀ i = (i ≤ p) × (first (λ (n : ℕ). eqb (portOf (getD phys n noPhy) .0) (port .0)) p ≡ firstFrom (λ (n : ℕ). eqb (portOf (getD phys n noPhy) .0) (port .0)) i (p - i))
 
 abbrev μ-loop : tie.MeasureT-loop
-μ-loop phys p port i₀ i = p - i
+μ-loop p port phys i₀ i = p - i
 
 pub lowest-spec : {M : Type 1} → statement M
 unfolding lowestOf
 lowest-spec =
     tie.close
-    (tie.spec Inv-loop μ-loop (λ c. search first-loop) (λ c κs. search first-loop) (λ c. search first-loop)
-    (λ c. search first-loop) (λ c. search first-loop) (λ c. search first-loop) (λ c. search first-loop))
+    (tie.spec Inv-loop μ-loop (λ c. search first-loop) (λ c. search first-loop) (λ c. search first-loop) (λ c. search first-loop) (λ c κs. search first-loop) (λ c. search first-loop) (λ c. search first-loop) (λ c. search first-loop) (λ c. search first-loop) (λ c. search first-loop))

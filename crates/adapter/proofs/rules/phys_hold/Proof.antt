@@ -10,13 +10,12 @@ use Rattle.adapter.proofs.rules.phys_hold.Statement.{statement}
 use Rattle.adapter.proofs.rules.phys_hold.Tie as tie
 
 abbrev Inv-loop : tie.InvT-loop
-Inv-loop phys p n k₀ k = (k ≤ n) × (allTo (λ (i : ℕ). fieldsHold (getD phys i noPhy) (record { 0 = i }) p) k ≡ true)
+Inv-loop p phys n k₀ k = (k ≤ n) × (allTo (λ (i : ℕ). fieldsHold (getD phys i noPhy) (record { 0 = i }) p) k ≡ true)
 
 abbrev μ-loop : tie.MeasureT-loop
-μ-loop phys p n k₀ k = n - k
+μ-loop p phys n k₀ k = n - k
 
 pub phys-hold-spec : {M : Type 1} → statement M
 phys-hold-spec =
     tie.close
-    (tie.spec Inv-loop μ-loop (λ c. search all-loop) (λ c κs. search all-loop) (λ c. search all-loop)
-    (λ c. search all-loop) (λ c. search all-loop) (λ c. search all-loop) (λ c. search all-loop))
+    (tie.spec Inv-loop μ-loop (λ c. search all-loop) (λ c. search all-loop) (λ c. search all-loop) (λ c. search all-loop) (λ c κs. search all-loop) (λ c. search all-loop) (λ c. search all-loop) (λ c. search all-loop) (λ c. search all-loop) (λ c. search all-loop))

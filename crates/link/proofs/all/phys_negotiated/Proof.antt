@@ -10,13 +10,12 @@ use Rattle.link.proofs.all.phys_negotiated.Statement.{statement}
 use Rattle.link.proofs.all.phys_negotiated.Tie as tie
 
 abbrev Inv-loop : tie.InvT-loop
-Inv-loop phys p k₀ k = (k ≤ p) × (allTo (λ (n : ℕ). negotiatedHolds (getD phys n noPhy)) k ≡ true)
+Inv-loop p phys k₀ k = (k ≤ p) × (allTo (λ (n : ℕ). negotiatedHolds (getD phys n noPhy)) k ≡ true)
 
 abbrev μ-loop : tie.MeasureT-loop
-μ-loop phys p k₀ k = p - k
+μ-loop p phys k₀ k = p - k
 
 pub phys-negotiated-spec : {M : Type 1} → statement M
 phys-negotiated-spec =
     tie.close
-    (tie.spec Inv-loop μ-loop (λ c. search all-loop) (λ c κs. search all-loop) (λ c. search all-loop)
-    (λ c. search all-loop) (λ c. search all-loop) (λ c. search all-loop) (λ c. search all-loop))
+    (tie.spec Inv-loop μ-loop (λ c. search all-loop) (λ c. search all-loop) (λ c. search all-loop) (λ c κs. search all-loop) (λ c. search all-loop) (λ c. search all-loop) (λ c. search all-loop) (λ c. search all-loop) (λ c. search all-loop))
