@@ -27,22 +27,7 @@ pub mod call {
 
 /// Return codes, by section 10.
 pub mod status {
-    pub const SUCCESS: u32 = 0;
-    pub const BAD_CNTL_CODE: u32 = 2;
-    pub const INVALID_PARAMETER: u32 = 3;
-    pub const WRITE_ATTEMPTED: u32 = 4;
-    pub const PHY_INFO_CHANGED: u32 = SUCCESS;
-    pub const PHY_INFO_NOT_CHANGEABLE: u32 = 2000;
-    pub const LINK_RATE_OUT_OF_RANGE: u32 = 2001;
-    pub const PHY_DOES_NOT_EXIST: u32 = 2002;
-    pub const PHY_DOES_NOT_MATCH_PORT: u32 = 2003;
-    pub const SELECT_PHY_OR_PORT: u32 = 2005;
-    pub const PORT_DOES_NOT_EXIST: u32 = 2006;
-    pub const CONNECTION_FAILED: u32 = 2008;
-    pub const NO_SATA_DEVICE: u32 = 2009;
-    pub const NO_SATA_SIGNATURE: u32 = 2010;
-    pub const NO_SCSI_ADDRESS: u32 = 2013;
-    pub const NO_DEVICE_ADDRESS: u32 = 2014;
+    pub use model::codes::status::*;
     /// What the record holds where the call's number is not 0.
     pub const NONE: u32 = 0xFFFF_FFFF;
 }
