@@ -21,9 +21,9 @@ use Rattle.change.specs.declared.Change.{Change}
 use Rattle.change.specs.Changed.{keeps, applied}
 use Rattle.dispatch.specs.Request.{Outcome, outcome, stateNumber, bufferNumber, callNumber, stateOf, replies, untouched, answeredAt, handled}
 use Rattle.dispatch.specs.Laws.{called, heard-phys, heard-rows, heard-medium, heard-buffer}
-use Rattle.claims.specs.Run.{Reply, End, replyOf, entryOf, preceded, run}
+use Rattle.claims.specs.Run.{Reply, End, replyOf, entryOf, preceded, run, wholeRun}
 use Rattle.claims.specs.Held.{Sized, sized-step, number-step, sized-opened}
-use Rattle.exports.specs.Session.{sizeOf, wholeFirst, firstOf, behindFirst, requestsOf, withReplies, reply, codeOf, lineOf, linesOf, Ran, ran, shown, ranFrom, sessionRun, endFrom, Left, left, afterRequest, sized, turned}
+use Rattle.exports.specs.Session.{sizeOf, wholeFirst, firstOf, behindFirst, requestsOf, withReplies, codeOf, lineOf, linesOf, Ran, ran, shown, ranFrom, sessionRun, endFrom, Left, left, afterRequest, sized, turned}
 
 -- ---- where a request ends
 
@@ -294,5 +294,5 @@ module _ (text file medium : List ℕ) (o : Opened) (e : o ≡ openedOf text fil
 
   pub opened-ran : (session lines : List ℕ) (r : Ran) → r ≡ ranFrom (length lines / 8) (stateOf (o .state .level) (o .state .adapter)) medium session lines
       → r ≡ sessionRun text file medium session lines
-  unfolding sessionRun
+  unfolding sessionRun wholeRun ranFrom
   opened-ran session lines r p = rw e at p

@@ -8,9 +8,8 @@ use lib.ListN.{length, take, drop}
 use Rattle.laws.specs.Splice.{part}
 use Rattle.wire.specs.Number.{number, bytes}
 use Rattle.state.specs.declared.State.{State}
-use Rattle.state.specs.Open.{openedOf}
 use Rattle.dispatch.specs.Request.{Outcome, handled}
-use Rattle.claims.specs.Run.{Reply, Entry, End, replyOf, run}
+use Rattle.claims.specs.Run.{Reply, Entry, End, replyOf, run, wholeRun}
 
 -- ---- the requests of a session
 
@@ -45,9 +44,6 @@ withReplies (e ∷ log) session = take 4 session ++ (e .exchange .reply .buffer 
 unfoldable pub codeOf : Reply → ℕ
 codeOf reply = cond (eqb (reply .call) 0) (number (part (reply .buffer) 20 4)) 4294967295
 
-abbrev pub reply : ℕ → List ℕ → Reply
-reply call buffer = record { call = call; buffer = buffer }
-
 -- a request's call number and return code
 abbrev pub lineOf : Reply → List ℕ
 lineOf reply = bytes 4 (reply .call) ++ bytes 4 (codeOf reply)
@@ -71,13 +67,13 @@ unfoldable pub shown : End → List ℕ → List ℕ → Ran
 shown end session lines =
     ran (length (end .log)) (end .medium) (withReplies (end .log) session) (linesOf (end .log) ++ drop (8 * length (end .log)) lines)
 
--- the run of `claims` from a state, with as many requests as there is room for
+-- "A run is an opening, then a list of requests": those of the session, as many as the record has room for. A line is 8 bytes
+unfoldable pub sessionRun : List ℕ → List ℕ → List ℕ → List ℕ → List ℕ → Ran
+sessionRun text file medium session lines = shown (wholeRun text file medium (requestsOf (length lines / 8) session)) session lines
+
+-- the same from a state, with room for so many
 unfoldable pub ranFrom : ℕ → State → List ℕ → List ℕ → List ℕ → Ran
 ranFrom room s medium session lines = shown (run s medium (requestsOf room session)) session lines
-
--- the whole run of a session: an opening, then its requests. A line of the record is 8 bytes
-unfoldable pub sessionRun : List ℕ → List ℕ → List ℕ → List ℕ → List ℕ → Ran
-sessionRun text file medium session lines = ranFrom (length lines / 8) (openedOf text file medium .state) medium session lines
 
 -- ---- one request of a session
 

@@ -28,30 +28,62 @@ abbrev μ-loop : tie.MeasureT-loop
 pub run-spec : {M : Type 1} → statement M
 run-spec =
     tie.close
-    (tie.spec Inv-loop μ-loop
-    (λ c κs. search needs)
+    (tie.spec Inv-loop μ-loop (λ c κs. search needs)
     (λ c. (search needs, search needs, search needs, search needs, search needs, search needs, search (run-starts, needs), search needs, search needs))
-    (λ c κs. search needs)
-    (λ c. search needs)
-    (λ c. search needs)
-    (λ c. search needs)
-    (λ c. search (run-ends, needs))
-    (λ c. search needs)
-    (λ c. search needs)
-    (λ c. search needs)
-    (λ c. search needs)
-    (λ c. search needs)
-    (λ c. search needs)
-    (λ c. search needs)
-    (λ c. search needs)
-    (λ c. search needs)
-    (λ c κs. (search needs, (search (request-there, needs), search (line-lent, needs))))
+    (λ c κs. search needs) (λ c. search needs) (λ c. search needs) (λ c. search needs) (λ c. search (run-ends, needs)) (λ c. search needs)
+    (λ c. search needs) (λ c. search needs) (λ c. search needs) (λ c. search needs) (λ c. search needs) (λ c. search needs) (λ c. search needs)
+    (λ c. search needs) (λ c κs. (search needs, (search (request-there, needs), search (line-lent, needs))))
     (λ c κs. search (c .before .before .before .before .before .before .before .handle-sized .ensures .1, needs))
-    (λ c. search (c .before .before .before .before .before .before .before .before .before .before .before .before .before .before .before .before .loop .inv, c .before .before .before .before .before .before .before .before .before .before .before .before .before .before .before .loop-test .taken, c .before .before .before .before .before .before .before .before .before .before .before .before .before .end-from .ensures, c .before .before .before .before .before .before .before .before .before .before .before .before .if1 .left, c .before .before .before .before .before .before .before .before .handle-sized .ensures, c .before .before .before .before .before .before .before .medium .given, c .before .before .before .before .before .session .given, c .before .before .before .lines .given, needs))
-    (λ c. (search (c .before .before .before .before .before .before .before .before .before .before .before .before .before .before .before .before .loop .inv, c .before .before .before .before .before .before .before .before .before .before .before .before .before .before .before .loop-test .taken, c .before .before .before .before .before .before .before .before .before .before .before .before .before .end-from .ensures, c .before .before .before .before .before .before .before .before .before .before .before .before .if1 .left, c .before .before .before .before .before .before .before .before .handle-sized .ensures, c .before .before .before .before .before .before .before .medium .given, c .before .before .before .before .before .session .given, c .before .before .before .lines .given, needs), search (c .before .before .before .before .before .before .before .before .before .before .before .before .before .before .before .before .loop .inv, c .before .before .before .before .before .before .before .before .before .before .before .before .before .before .before .loop-test .taken, c .before .before .before .before .before .before .before .before .before .before .before .before .before .end-from .ensures, c .before .before .before .before .before .before .before .before .before .before .before .before .if1 .left, c .before .before .before .before .before .before .before .before .handle-sized .ensures, c .before .before .before .before .before .before .before .medium .given, c .before .before .before .before .before .session .given, c .before .before .before .lines .given, needs), search (c .before .before .before .before .before .before .before .before .before .before .before .before .before .before .before .before .loop .inv, c .before .before .before .before .before .before .before .before .before .before .before .before .before .before .before .loop-test .taken, c .before .before .before .before .before .before .before .before .before .before .before .before .before .end-from .ensures, c .before .before .before .before .before .before .before .before .before .before .before .before .if1 .left, c .before .before .before .before .before .before .before .before .handle-sized .ensures, c .before .before .before .before .before .before .before .medium .given, c .before .before .before .before .before .session .given, c .before .before .before .lines .given, needs), search (c .before .before .before .before .before .before .before .before .before .before .before .before .before .before .before .before .loop .inv, c .before .before .before .before .before .before .before .before .before .before .before .before .before .before .before .loop-test .taken, c .before .before .before .before .before .before .before .before .before .before .before .before .before .end-from .ensures, c .before .before .before .before .before .before .before .before .before .before .before .before .if1 .left, c .before .before .before .before .before .before .before .before .handle-sized .ensures, c .before .before .before .before .before .before .before .medium .given, c .before .before .before .before .before .session .given, c .before .before .before .lines .given, needs), search (c .before .before .before .before .before .before .before .before .before .before .before .before .before .before .before .before .loop .inv, c .before .before .before .before .before .before .before .before .before .before .before .before .before .before .before .loop-test .taken, c .before .before .before .before .before .before .before .before .before .before .before .before .before .end-from .ensures, c .before .before .before .before .before .before .before .before .before .before .before .before .if1 .left, c .before .before .before .before .before .before .before .before .handle-sized .ensures, c .before .before .before .before .before .before .before .medium .given, c .before .before .before .before .before .session .given, c .before .before .before .lines .given, needs), search (c .before .before .before .before .before .before .before .before .before .before .before .before .before .before .before .before .loop .inv, c .before .before .before .before .before .before .before .before .before .before .before .before .before .before .before .loop-test .taken, c .before .before .before .before .before .before .before .before .before .before .before .before .before .end-from .ensures, c .before .before .before .before .before .before .before .before .before .before .before .before .if1 .left, c .before .before .before .before .before .before .before .before .handle-sized .ensures, c .before .before .before .before .before .before .before .medium .given, c .before .before .before .before .before .session .given, c .before .before .before .lines .given, needs), run-goes-on _ _ _ _ _ _ _ _ (c .before .before .before .before .before .before .before .before .before .before .before .before .before .before .before .before .loop .inv .6) _ (c .before .before .before .before .before .before .before .before .before .before .before .before .before .end-from .ensures .0) (c .before .before .before .before .before .before .before .before .before .before .before .before .if1 .left) (c .before .before .before .before .before .before .before .before .before .before .before .before .before .end-from .ensures .1 .1) (c .before .before .before .before .before .before .before .before .before .before .before .before .before .before .before .before .loop .inv .1) (c .before .before .before .before .before .before .before .before .before .before .before .before .before .before .before .loop-test .taken) _ _ _ _ _ _ (c .before .before .before .before .before .before .before .before .handle-sized .ensures .0) (c .before .before .before .before .before .session .given .0) (applied-stored _ _ _ (c .before .if2 .taken) (c .with-phy .ensures)), number-next _ _ _ _ _ _ _ _ _ (c .before .before .before .before .before .before .before .before .handle-sized .ensures .0) (c .before .before .before .before .before .before .before .before .before .before .before .before .before .before .before .before .loop .inv .8) (applied-stored _ _ _ (c .before .if2 .taken) (c .with-phy .ensures)) _ (c .before .before .before .before .before .before .before .before .before .before .before .before .before .before .before .before .loop .inv .7), sized-next _ _ _ _ _ _ _ _ _ (c .before .before .before .before .before .before .before .before .handle-sized .ensures .0) (c .before .before .before .before .before .before .before .before .before .before .before .before .before .before .before .before .loop .inv .8) (applied-stored _ _ _ (c .before .if2 .taken) (c .with-phy .ensures))))
-    (λ c. search (c .before .before .before .before .before .before .before .before .before .before .before .before .before .before .before .loop .inv, c .before .before .before .before .before .before .before .before .before .before .before .before .before .before .loop-test .taken, c .before .before .before .before .before .before .before .before .before .before .before .before .end-from .ensures, c .before .before .before .before .before .before .before .before .before .before .before .if1 .left, c .before .before .before .before .before .before .before .handle-sized .ensures, c .before .before .before .before .before .before .medium .given, c .before .before .before .before .session .given, c .before .before .lines .given, needs))
-    (λ c. (search (c .before .before .before .before .before .before .before .before .before .before .before .before .before .before .before .loop .inv, c .before .before .before .before .before .before .before .before .before .before .before .before .before .before .loop-test .taken, c .before .before .before .before .before .before .before .before .before .before .before .before .end-from .ensures, c .before .before .before .before .before .before .before .before .before .before .before .if1 .left, c .before .before .before .before .before .before .before .handle-sized .ensures, c .before .before .before .before .before .before .medium .given, c .before .before .before .before .session .given, c .before .before .lines .given, needs), search (c .before .before .before .before .before .before .before .before .before .before .before .before .before .before .before .loop .inv, c .before .before .before .before .before .before .before .before .before .before .before .before .before .before .loop-test .taken, c .before .before .before .before .before .before .before .before .before .before .before .before .end-from .ensures, c .before .before .before .before .before .before .before .before .before .before .before .if1 .left, c .before .before .before .before .before .before .before .handle-sized .ensures, c .before .before .before .before .before .before .medium .given, c .before .before .before .before .session .given, c .before .before .lines .given, needs), search (c .before .before .before .before .before .before .before .before .before .before .before .before .before .before .before .loop .inv, c .before .before .before .before .before .before .before .before .before .before .before .before .before .before .loop-test .taken, c .before .before .before .before .before .before .before .before .before .before .before .before .end-from .ensures, c .before .before .before .before .before .before .before .before .before .before .before .if1 .left, c .before .before .before .before .before .before .before .handle-sized .ensures, c .before .before .before .before .before .before .medium .given, c .before .before .before .before .session .given, c .before .before .lines .given, needs), search (c .before .before .before .before .before .before .before .before .before .before .before .before .before .before .before .loop .inv, c .before .before .before .before .before .before .before .before .before .before .before .before .before .before .loop-test .taken, c .before .before .before .before .before .before .before .before .before .before .before .before .end-from .ensures, c .before .before .before .before .before .before .before .before .before .before .before .if1 .left, c .before .before .before .before .before .before .before .handle-sized .ensures, c .before .before .before .before .before .before .medium .given, c .before .before .before .before .session .given, c .before .before .lines .given, needs), search (c .before .before .before .before .before .before .before .before .before .before .before .before .before .before .before .loop .inv, c .before .before .before .before .before .before .before .before .before .before .before .before .before .before .loop-test .taken, c .before .before .before .before .before .before .before .before .before .before .before .before .end-from .ensures, c .before .before .before .before .before .before .before .before .before .before .before .if1 .left, c .before .before .before .before .before .before .before .handle-sized .ensures, c .before .before .before .before .before .before .medium .given, c .before .before .before .before .session .given, c .before .before .lines .given, needs), search (c .before .before .before .before .before .before .before .before .before .before .before .before .before .before .before .loop .inv, c .before .before .before .before .before .before .before .before .before .before .before .before .before .before .loop-test .taken, c .before .before .before .before .before .before .before .before .before .before .before .before .end-from .ensures, c .before .before .before .before .before .before .before .before .before .before .before .if1 .left, c .before .before .before .before .before .before .before .handle-sized .ensures, c .before .before .before .before .before .before .medium .given, c .before .before .before .before .session .given, c .before .before .lines .given, needs), run-goes-on _ _ _ _ _ _ _ _ (c .before .before .before .before .before .before .before .before .before .before .before .before .before .before .before .loop .inv .6) _ (c .before .before .before .before .before .before .before .before .before .before .before .before .end-from .ensures .0) (c .before .before .before .before .before .before .before .before .before .before .before .if1 .left) (c .before .before .before .before .before .before .before .before .before .before .before .before .end-from .ensures .1 .1) (c .before .before .before .before .before .before .before .before .before .before .before .before .before .before .before .loop .inv .1) (c .before .before .before .before .before .before .before .before .before .before .before .before .before .before .loop-test .taken) _ _ _ _ _ _ (c .before .before .before .before .before .before .before .handle-sized .ensures .0) (c .before .before .before .before .session .given .0) (applied-kept _ _ (c .if2 .left)), number-next _ _ _ _ _ _ _ _ _ (c .before .before .before .before .before .before .before .handle-sized .ensures .0) (c .before .before .before .before .before .before .before .before .before .before .before .before .before .before .before .loop .inv .8) (applied-kept _ _ (c .if2 .left)) _ (c .before .before .before .before .before .before .before .before .before .before .before .before .before .before .before .loop .inv .7), sized-next _ _ _ _ _ _ _ _ _ (c .before .before .before .before .before .before .before .handle-sized .ensures .0) (c .before .before .before .before .before .before .before .before .before .before .before .before .before .before .before .loop .inv .8) (applied-kept _ _ (c .if2 .left))))
-    (λ c. search needs)
-    (λ c. search needs)
-    (λ c. search needs)
-    (λ c. search (run-full, needs)))
+    (λ c.
+    let k = c .before .before in
+    let i = k .before .before .before .before .before .before .before .before .before .before .before .before .before .before .loop .inv in
+    let t = k .before .before .before .before .before .before .before .before .before .before .before .before .before .loop-test .taken in
+    search (i, t, needs))
+    (λ c.
+    let k = c .before .before in
+    let i = k .before .before .before .before .before .before .before .before .before .before .before .before .before .before .loop .inv in
+    let t = k .before .before .before .before .before .before .before .before .before .before .before .before .before .loop-test .taken in
+    let e = k .before .before .before .before .before .before .before .before .before .before .before .end-from .ensures in
+    let h = k .before .before .before .before .before .before .handle-sized .ensures in
+    let n = k .before .before .before .before .before .before .before .before .before .before .if1 .left in
+    let ss = k .before .before .before .session .given in
+    let ls = k .before .lines .given in
+    let m = k .before .before .before .before .before .medium .given in
+    let stored = applied-stored _ _ _ (c .before .if2 .taken) (c .with-phy .ensures) in (
+      search (i, e, ss, needs),
+      search (i, ls, needs),
+      search (i, t, needs),
+      search (i, m, needs),
+      search (i, ss, needs),
+      search (i, ls, needs),
+      run-goes-on _ _ _ _ _ _ _ _ (i .6) _ (e .0) n (e .1 .1) (i .1) t _ _ _ _ _ _ (h .0) (ss .0) stored,
+      number-next _ _ _ _ _ _ _ _ _ (h .0) (i .8) stored _ (i .7),
+      sized-next _ _ _ _ _ _ _ _ _ (h .0) (i .8) stored,
+    ))
+    (λ c.
+    let k = c .before in
+    let i = k .before .before .before .before .before .before .before .before .before .before .before .before .before .before .loop .inv in
+    let t = k .before .before .before .before .before .before .before .before .before .before .before .before .before .loop-test .taken in
+    search (i, t, needs))
+    (λ c.
+    let k = c .before in
+    let i = k .before .before .before .before .before .before .before .before .before .before .before .before .before .before .loop .inv in
+    let t = k .before .before .before .before .before .before .before .before .before .before .before .before .before .loop-test .taken in
+    let e = k .before .before .before .before .before .before .before .before .before .before .before .end-from .ensures in
+    let h = k .before .before .before .before .before .before .handle-sized .ensures in
+    let n = k .before .before .before .before .before .before .before .before .before .before .if1 .left in
+    let ss = k .before .before .before .session .given in
+    let ls = k .before .lines .given in
+    let m = k .before .before .before .before .before .medium .given in
+    let stored = applied-kept _ _ (c .if2 .left) in (
+      search (i, e, ss, needs),
+      search (i, ls, needs),
+      search (i, t, needs),
+      search (i, m, needs),
+      search (i, ss, needs),
+      search (i, ls, needs),
+      run-goes-on _ _ _ _ _ _ _ _ (i .6) _ (e .0) n (e .1 .1) (i .1) t _ _ _ _ _ _ (h .0) (ss .0) stored,
+      number-next _ _ _ _ _ _ _ _ _ (h .0) (i .8) stored _ (i .7),
+      sized-next _ _ _ _ _ _ _ _ _ (h .0) (i .8) stored,
+    ))
+    (λ c. search needs) (λ c. search needs) (λ c. search needs) (λ c. search (run-full, needs)))
