@@ -1,5 +1,5 @@
--- What a request that may change a phy leaves (document 01, "Request", codes 21 and 22): its return code, the adapter and its body. It
--- sees no disk, and stores at most one phy. "Bytes that no line below fills stay". Assumes nothing.
+-- What a request may change (document 01, "Request"): at most one phy. A `Change` is what every code gives; the two records are what codes
+-- 21 and 22 leave. None sees a disk. Assumes nothing.
 use mathlib.Core.Bool.{true, false, cond}
 use mathlib.Core.List.{List}
 use Prim.Native.Nat.{ℕ}

@@ -15,7 +15,7 @@ unfolding stores
 stored-by code n phy phy′ e = rw e
 
 -- a change that stores none leaves the adapter
-pub kept-by : (ad : Adapter) (code : ℕ) (c : Change) → c ≡ keeps code → servedBy ad c ≡ gives code ad
+kept-by : (ad : Adapter) (code : ℕ) (c : Change) → c ≡ keeps code → servedBy ad c ≡ gives code ad
 unfolding keeps applied
 kept-by ad code c e = rw e
 

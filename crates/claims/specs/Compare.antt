@@ -1,14 +1,13 @@
 -- The comparison of two runs, by induction over the requests. Assumes nothing.
 use mathlib.Core.Path.{_≡_, refl, sym, _∙_, ap, ap₂}
-use mathlib.Core.Bool.{Bool, true, false, cond, true≢false}
+use mathlib.Core.Bool.{Bool, true, false, true≢false}
 use mathlib.Core.List.{List, [], _∷_}
 use Prim.Native.Nat.{ℕ, _≤_}
 use Rattle.laws.specs.Choice.{by-bool}
-use Rattle.level.specs.declared.Level.{Level}
 use Rattle.adapter.specs.declared.Adapter.{Adapter}
 use Rattle.state.specs.declared.State.{State}
 use Rattle.dispatch.specs.Request.{Outcome, handled}
-use Rattle.claims.specs.Run.{Reply, Exchange, Entry, End, replyOf, entryOf, preceded, denied, run, exchanges, given, sentOf, denial}
+use Rattle.claims.specs.Run.{Reply, Exchange, Entry, End, replyOf, entryOf, preceded, denied, run, exchanges, given, sentOf}
 use Rattle.claims.specs.Claim.{Comparison}
 use Rattle.claims.specs.Steps.{denied-step, level-kept, Same, same-step}
 

@@ -1,6 +1,6 @@
 -- What a code 25 does to the sectors of every disk, judged by the request, its return code and its reply (document 01, "Two runs and
 -- the last writer"). Assumes nothing.
-use mathlib.Core.Path.{_≡_, refl, sym, _∙_, ap}
+use mathlib.Core.Path.{_≡_, refl, sym, ap}
 use mathlib.Core.Logic.{_≢_}
 use mathlib.Core.Bool.{Bool, true, false, cond, _&&_, not}
 use mathlib.Core.List.{List}
@@ -21,7 +21,7 @@ use Rattle.disk.specs.Laws.{sector, writes, covers, sectorAfter, disk-length, s
 use Rattle.adapter.specs.declared.Adapter.{Adapter}
 use Rattle.adapter.specs.Adapter.{mediumSize, phyIn}
 use Rattle.select.specs.declared.Selection.{Selection}
-use Rattle.select.specs.Select.{selection, selectBy, selectIn, none, selected, lowestOf, phyGiven, portGiven, portIn}
+use Rattle.select.specs.Select.{selection, selectBy, selectIn, lowestOf, phyGiven, portGiven, portIn}
 use Rattle.select.specs.Laws.{selected-below}
 use Rattle.passthrough.specs.Passthrough.{Passed, leaves, phyAsked, portAsked, connectionRate, destinationOf, formHolds, connected, diskOf, onDisk, sentTo, passedTo, passthrough}
 

@@ -1,5 +1,5 @@
 -- A state that 107 accepts goes on being accepted: what a request leaves passes the rules again, and the medium keeps its length. So the
--- number of the state and the medium is the same at every request of a run. Assumes nothing.
+-- number of the state and the medium is the same after a request as before it; the run of `exports` goes by that. Assumes nothing.
 use mathlib.Core.Path.{_≡_, refl, sym, _∙_}
 use mathlib.Core.Bool.{true, _&&_}
 use mathlib.Core.List.{List}
@@ -41,7 +41,7 @@ use Rattle.claims.specs.Ways.{served-by, Ready, handled-by}
 use Rattle.claims.specs.Effects.{FromFile}
 use Rattle.claims.specs.Demand3.{opened-from, opened-zero}
 
--- the arrays have the lengths of their types
+-- the arrays have the lengths of their types: 32 phys, and 64 entity bytes in each below p
 pub record Sized (ad : Adapter) : Type 0 where
   pub phys : length (ad .phys) ≡ 32
   pub entities : (n : ℕ) → n < ad .«phy_count» → length (phyIn ad n .entity) ≡ 64
@@ -104,7 +104,7 @@ module _ (ad : Adapter) (z : Sized ad) (h : adapterHolds ad ≡ true) where
   -- ---- code 22
 
   module _ (body : List ℕ) where
-    pub errors-hold : adapterHolds (linkErrors ad body .adapter) ≡ true
+    errors-hold : adapterHolds (linkErrors ad body .adapter) ≡ true
     errors-hold =
         errors-by ad body (λ (c : Changed). adapterHolds (c .adapter) ≡ true) (λ _ _ _. h)
         (λ k. stored-holds (named body) (cleared (phyIn ad (named body))) k
@@ -134,7 +134,7 @@ module _ (ad : Adapter) (z : Sized ad) (h : adapterHolds ad ≡ true) where
           let g : fieldsHold set n p ≡ true = fields-configured phy (s .class) minimum maximum n p e c q f in
           either (λ (x : Phy). fieldsHold x n p ≡ true) (eqb (s .negotiated) 1) (fields-disabled set n p ∙ g) (fields-reset set n p ∙ g)
 
-    pub set-holds : adapterHolds (setPhyInfo ad body .adapter) ≡ true
+    set-holds : adapterHolds (setPhyInfo ad body .adapter) ≡ true
     unfolding setNow asked
     set-holds =
         set-by ad body (λ (s : Result). adapterHolds (s .adapter) ≡ true) (λ _ _ _. h)
@@ -191,9 +191,11 @@ module _ (s : State) (medium request : List ℕ) (z : Sized (s .adapter)) where
       (passed-length (s .adapter) medium body (r .disks) (passthrough-lent (controlCode request) (length body) body e (r .room))))
       (λ _ _. stays))
 
+  -- the arrays keep their lengths
   pub sized-step : Sized (handled s medium request .state .adapter)
   sized-step = goes .sized
 
+  -- and the number stays
   pub number-step : stateNumber (handled s medium request .state) (length (handled s medium request .medium)) ≡ stateNumber s (length medium)
   number-step = goes .number
 

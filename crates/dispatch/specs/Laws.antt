@@ -22,7 +22,7 @@ use Rattle.state.specs.Laws.{state-phys, state-rows}
 use Rattle.adapter.specs.Adapter.{mediumSize}
 use Rattle.change.specs.declared.Change.{Change}
 use Rattle.change.specs.Changed.{keeps, applied, servedBy}
-use Rattle.service.specs.Serve.{leaves, changed, served}
+use Rattle.service.specs.Serve.{leaves, served}
 use Rattle.dispatch.specs.Request.{outcome, stateNumber, bufferNumber, callNumber, untouched, answer, inBuffer, refused, answered, stateOf, replies, replied, answeredAt}
 
 -- ---- a code that a callee gave

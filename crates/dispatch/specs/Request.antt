@@ -53,7 +53,7 @@ pub record Answer : Type 0 where
   pub medium : List ℕ
   pub buffer : List ℕ
 
--- the same from what the code gives back and what it leaves in the two lent slices
+-- the same from a return code, an adapter, and what is left in the two lent slices
 abbrev pub answer : Result → List ℕ → List ℕ → Answer
 answer s medium buffer = record { code = s .code; adapter = s .adapter; medium = medium; buffer = buffer }
 

@@ -1,6 +1,7 @@
 // The two calls of the simulator (document 01, "A SAS host adapter as a console sees it"): opening an adapter, and handling one
 // request. Each is determined by equation from its inputs, after refusals as after success, and neither has a `requires`. The opening only
-// reads the medium.
+// reads the medium. `state_number`, `buffer_number` and `reply` are the parts of `request`, for a run that tests state and medium once;
+// `reply` requires what the first two test.
 mod handle;
 
 pub use handle::buffer_number;

@@ -23,7 +23,7 @@ use Rattle.dispatch.specs.Request.{Outcome, outcome, stateNumber, bufferNumber,
 use Rattle.dispatch.specs.Laws.{called, heard-phys, heard-rows, heard-medium, heard-buffer}
 use Rattle.claims.specs.Run.{Reply, End, replyOf, entryOf, preceded, run, wholeRun}
 use Rattle.claims.specs.Held.{Sized, sized-step, number-step, sized-opened}
-use Rattle.exports.specs.Session.{sizeOf, wholeFirst, firstOf, behindFirst, requestsOf, withReplies, codeOf, lineOf, linesOf, Ran, ran, shown, ranFrom, sessionRun, endFrom, Left, left, afterRequest, sized, turned}
+use Rattle.exports.specs.Session.{sizeOf, wholeFirst, firstOf, behindFirst, requestsOf, withReplies, codeOf, lineOf, linesOf, Ran, ran, shown, ranFrom, sessionRun, endFrom, Left, left, afterRequest, behindLength, afterSized}
 
 -- ---- where a request ends
 
@@ -119,20 +119,20 @@ replied-left level ad c o code medium buffer line e p q = rw (q, p) (ap (λ (x :
 -- the same behind its length
 pub sized-left : (s s′ : State) (medium medium′ request buffer line : List ℕ)
     → left s′ medium′ buffer line ≡ afterRequest (handled s medium (take (length request - 4) (drop 4 request)))
-    → left s′ medium′ (take 4 request ++ (buffer ++ drop (length request - 4) (drop 4 request))) line ≡ turned s medium request
-unfolding turned
+    → left s′ medium′ (take 4 request ++ (buffer ++ drop (length request - 4) (drop 4 request))) line ≡ afterSized s medium request
+unfolding afterSized
 sized-left s s′ medium medium′ request buffer line p =
     let q : drop (length request - 4) (drop 4 request) ≡ [] = drop-of-length-le (drop 4 request) {i = length request - 4} (rw length-drop (le-refl (length request - 4))) in
-    rw (q, append-nil) (ap (sized (take 4 request)) (rw rest at p))
+    rw (q, append-nil) (ap (behindLength (take 4 request)) (rw rest at p))
 
 -- ---- a run that ends
 
-pub ran-none : (room : ℕ) (s : State) (medium session lines : List ℕ) → wholeFirst session ≡ false → ranFrom room s medium session lines ≡ ran 0 medium session lines
+ran-none : (room : ℕ) (s : State) (medium session lines : List ℕ) → wholeFirst session ≡ false → ranFrom room s medium session lines ≡ ran 0 medium session lines
 unfolding ranFrom requestsOf run shown withReplies linesOf
 ran-none zero s medium session lines h = refl
 ran-none (suc room) s medium session lines h = rw h refl
 
-pub ran-full : (s : State) (medium session lines : List ℕ) → ranFrom 0 s medium session lines ≡ ran 0 medium session lines
+ran-full : (s : State) (medium session lines : List ℕ) → ranFrom 0 s medium session lines ≡ ran 0 medium session lines
 unfolding ranFrom requestsOf run shown withReplies linesOf
 ran-full s medium session lines = refl
 
@@ -185,8 +185,8 @@ length-line reply = length-append (bytes 4 (reply .call)) (bytes 4 (codeOf reply
 
 -- the first request of a session, with its length
 turned-first : (s : State) (medium session : List ℕ)
-    → turned s medium (take (4 + sizeOf session) session) ≡ sized (take 4 session) (afterRequest (handled s medium (firstOf session)))
-unfolding turned part
+    → afterSized s medium (take (4 + sizeOf session) session) ≡ behindLength (take 4 session) (afterRequest (handled s medium (firstOf session)))
+unfolding afterSized part
 turned-first s medium session =
     rw (take-take 4 (4 + sizeOf session) session (omega arith), drop-take 4 (4 + sizeOf session) session, add-sub-cancel-left) refl
 
@@ -201,16 +201,16 @@ applied-kept ad c e = rw e refl
 
 -- what goes on holding of the state
 module _ (level : Level) (ad bd : Adapter) (c : Change) (medium medium′ request request′ line : List ℕ)
-    (p : left (stateOf level (applied ad c)) medium′ request′ line ≡ turned (stateOf level ad) medium request) (z : Sized ad) (e : bd ≡ applied ad c) where
+    (p : left (stateOf level (applied ad c)) medium′ request′ line ≡ afterSized (stateOf level ad) medium request) (z : Sized ad) (e : bd ≡ applied ad c) where
   abbrev after : Outcome
   after = handled (stateOf level ad) medium (drop 4 request)
 
   state-now : stateOf level (applied ad c) ≡ after .state
-  unfolding turned
+  unfolding afterSized
   state-now = ap (λ (l : Left). l .state) p
 
   medium-now : medium′ ≡ after .medium
-  unfolding turned
+  unfolding afterSized
   medium-now = ap (λ (l : Left). l .medium) p
 
   pub sized-next : Sized bd
@@ -248,7 +248,7 @@ module _ (r : Ran) (s : State) (medium session lines : List ℕ) (at count room 
 
   -- a request is handled
   module _ (end : ℕ) (e : end ≡ endFrom session at) (h : (end ≡ at → ⊥)) (k : end ≤ length session) (room′ : 8 * room ≤ length lines) (c : count < room)
-      (level : Level) (ad bd : Adapter) (medium′ request line : List ℕ) (p : left (stateOf level ad) medium′ request line ≡ turned s medium (take (end - at) (drop at session)))
+      (level : Level) (ad bd : Adapter) (medium′ request line : List ℕ) (p : left (stateOf level ad) medium′ request line ≡ afterSized s medium (take (end - at) (drop at session)))
       (l : length request ≡ length (take (end - at) (drop at session))) (stored : bd ≡ ad) where
     abbrev session′ : List ℕ
     session′ = take at session ++ (request ++ drop (end - at) (drop at session))
@@ -261,7 +261,7 @@ module _ (r : Ran) (s : State) (medium session lines : List ℕ) (at count room 
         let o : Outcome = handled s medium (firstOf (drop at session)) in
         let x : end ≡ at + (4 + sizeOf (drop at session)) = whole-at session at end e h .1 in
         let n : end - at ≡ 4 + sizeOf (drop at session) = omega arith in
-        let q : left (stateOf level ad) medium′ request line ≡ sized (take 4 (drop at session)) (afterRequest o) = rw n at p ∙ turned-first s medium (drop at session) in
+        let q : left (stateOf level ad) medium′ request line ≡ behindLength (take 4 (drop at session)) (afterRequest o) = rw n at p ∙ turned-first s medium (drop at session) in
         let size : length request ≡ end - at = l ∙ length-take-le (end - at) (drop at session) (rw length-drop (omega arith)) in
         let eight : length line ≡ 8 = ap (λ (x : Left). length (x .line)) q ∙ length-line (replyOf o) in
         let front : length (take at session) ≡ at = length-take-le at session (omega arith) in

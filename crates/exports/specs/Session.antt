@@ -75,7 +75,7 @@ sessionRun text file medium session lines = shown (wholeRun text file medium (re
 unfoldable pub ranFrom : ℕ → State → List ℕ → List ℕ → List ℕ → Ran
 ranFrom room s medium session lines = shown (run s medium (requestsOf room session)) session lines
 
--- ---- one request of a session
+-- ---- one request of a session, for the contracts below the whole run
 
 -- where the request ends that begins at an index; that index itself where no whole request does
 unfoldable pub endFrom : List ℕ → ℕ → ℕ
@@ -95,9 +95,10 @@ left s medium bytes line = record { state = s; medium = medium; bytes = bytes; l
 abbrev pub afterRequest : Outcome → Left
 afterRequest o = left (o .state) (o .medium) (o .buffer) (lineOf (replyOf o))
 
--- behind its length
-abbrev pub sized : List ℕ → Left → Left
-sized length l = left (l .state) (l .medium) (length ++ l .bytes) (l .line)
+-- behind the bytes of its length
+abbrev pub behindLength : List ℕ → Left → Left
+behindLength size l = left (l .state) (l .medium) (size ++ l .bytes) (l .line)
 
-unfoldable pub turned : State → List ℕ → List ℕ → Left
-turned s medium request = sized (take 4 request) (afterRequest (handled s medium (drop 4 request)))
+-- what a request with its length before it leaves
+unfoldable pub afterSized : State → List ℕ → List ℕ → Left
+afterSized s medium request = behindLength (take 4 request) (afterRequest (handled s medium (drop 4 request)))

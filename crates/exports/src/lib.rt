@@ -16,9 +16,9 @@ pub extern "C" fn ascheknopf_open(text: &[u8], file: &[u8], medium: &[u8]) -> u3
     opened.call
 }
 
-// Opens the adapter and handles the requests of a session in order, as many as the record has room for: the replies stand in the requests'
-// places, and the record has 8 bytes for each, the call's number and the return code (FFFFFFFFh for none). Gives the number of requests.
-// Where the opening refuses, the zero state goes on.
+// Opens the adapter and handles the requests of a session in order, until one is cut short or over 32,768 bytes, or the record is full: the
+// replies stand in the requests' places, and the record has 8 bytes for each, the call's number and the return code (FFFFFFFFh for none).
+// Where the opening refuses, the zero state goes on. Gives the number of requests handled.
 #[no_mangle]
 pub extern "C" fn ascheknopf_run(
     text: &[u8],

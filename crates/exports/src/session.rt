@@ -12,7 +12,7 @@ ghost use Rattle.adapter.specs.Adapter.{mediumSize};
 ghost use Rattle.change.specs.Changed.{applied};
 ghost use Rattle.dispatch.specs.Request.{stateOf, stateNumber, answeredAt, handled};
 ghost use Rattle.claims.specs.Held.{Sized};
-ghost use Rattle.exports.specs.Session.{endFrom, left, afterRequest, turned, ran, ranFrom};
+ghost use Rattle.exports.specs.Session.{endFrom, left, afterRequest, afterSized, ran, ranFrom};
 
 // The longest request.
 const REQUEST_LIMIT: u32 = 32768;
@@ -105,7 +105,7 @@ fn handle_sized(
     requires { ⌜ number ≡ stateNumber (stateOf level adapter) (length (now medium)) ⌝ }
     requires { ⌜ 4 ≤ length (now request) ⌝ }
     requires { ⌜ length (now line) ≡ 8 ⌝ }
-    ensures { λ c. ⌜ left (stateOf level (applied adapter c)) (now (medium .exit)) (now (request .exit)) (now (line .exit)) ≡ turned (stateOf level adapter) (now (medium .entry)) (now (request .entry)) ⌝ }
+    ensures { λ c. ⌜ left (stateOf level (applied adapter c)) (now (medium .exit)) (now (request .exit)) (now (line .exit)) ≡ afterSized (stateOf level adapter) (now (medium .entry)) (now (request .entry)) ⌝ }
     ensures { λ c. ⌜ c .number .0 < 32 ⌝ }
 {
     handle(number, level, adapter, medium, &mut request[4..], line)

@@ -10,7 +10,7 @@ use Rattle.change.specs.declared.Change.{Change}
 use Rattle.change.specs.Changed.{keeps, stores}
 use Rattle.link_errors.specs.LinkErrors.{afterReset}
 
--- the phy that it stores exists
+-- the number of the phy that it stores is below 32
 pub below-reset : (n : PhyIdentifier) (phy : Phy) (byte : ℕ) (c : Change) → n .0 < 32 → c ≡ afterReset n phy byte → c .number .0 < 32
 unfolding afterReset keeps stores
 below-reset n phy byte c h e = rw e (either Below (eqb byte 1) h (omega arith))

@@ -19,7 +19,7 @@ phyGiven phy = not (eqb (phy .0) 0xff)
 unfoldable pub portGiven : PortIdentifier → Bool
 portGiven port = not (eqb (port .0) 0xff)
 
--- a phy, and none with the code that says why
+-- a phy was selected; none was, and the code that says why
 abbrev pub selected : PhyIdentifier → Selection
 selected phy = record { code = success; phy = phy }
 

@@ -154,6 +154,7 @@ fn select_from(adapter: Adapter, phy: PhyIdentifier, port: PortIdentifier, lowes
     if phy.0 < adapter.phy_count {
         return select_existing(adapter, phy, port, lowest);
     }
+    // there is no such phy, so its port does not matter
     judge(phy, port, adapter.phy_count, lowest, port)
 }
 

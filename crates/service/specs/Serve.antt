@@ -40,7 +40,7 @@ changed medium c = leaves (c .code) (c .adapter) medium (c .body)
 abbrev pub passed : Adapter → Passed → Served
 passed ad p = leaves (p .code) ad (p .medium) (p .body)
 
--- codes 1, 20, 26, 27 and 28; no other comes here, since the header's checks refuse it
+-- codes 1, 20, 26, 27 and 28; no other comes here: `served` takes 21, 22 and 25 before, and the header's checks refuse the rest
 unfoldable pub reportOf : Adapter → ℕ → List ℕ → Report
 reportOf ad control body =
     cond (eqb control getDriverInfo) (driverInfo (ad .info) body)

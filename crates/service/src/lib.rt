@@ -73,7 +73,7 @@ fn report(adapter: Adapter, control: u32, body: &mut [u8]) -> u32
     if control == codes::GET_DEVICE_ADDRESS {
         return device_address(adapter, body);
     }
-    // not reached: the header's checks refuse every other code
+    // not reached: `serve` takes 21, 22 and 25 before, and the header's checks refuse the rest
     codes::BAD_CONTROL_CODE
 }
 

@@ -34,7 +34,7 @@ pub info-by : (ad : Adapter) (body : List ℕ) (c : Change) → c ≡ phySet ad 
 unfolding setPhyInfo
 info-by ad body c e = ap (servedBy ad) e
 
--- the phy that it stores exists
+-- the number of the phy that it stores is below 32
 pub below-set : (n : PhyIdentifier) (phy : Phy) (s : PhySetting) (c : Change) → n .0 < 32 → c ≡ setPhy n phy s → c .number .0 < 32
 unfolding setPhy setChecked keeps stores
 below-set n phy s c h e =
