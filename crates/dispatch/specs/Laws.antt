@@ -1,15 +1,14 @@
 -- What the proofs of this crate cite. Assumes nothing.
 use mathlib.Core.Path.{_≡_, refl, sym, _∙_, ap}
 use mathlib.Core.Bool.{Bool, true, false, cond}
-use mathlib.Core.List.{List, [], _++_, append-nil}
+use mathlib.Core.List.{List, _++_, append-nil}
 use Prim.Native.Nat.{ℕ, _+_, _-_, _≤_}
-use native.Mathlib.Nat.{le-refl}
 use native.Mathlib.Omega.{arith}
 use lib.Dec.{eqb, ltb}
-use lib.ListN.{length, take, drop, drop-of-length-le, length-drop}
+use lib.ListN.{length, take, drop}
 use borrow.Author.Tests.{eqb-true, eqb-false, ltb-false}
 use Rattle.laws.specs.Choice.{by-bool, came-then, came-else}
-use Rattle.laws.specs.Splice.{splice, rest}
+use Rattle.laws.specs.Splice.{splice, rest, rest-end}
 use Rattle.codes.specs.Codes.{shortBuffer}
 use Rattle.wire.specs.Number.{bytes}
 use Rattle.level.specs.declared.Level.{Level}
@@ -42,9 +41,7 @@ module _ (buffer : List ℕ) (code : ℕ) (e : code ≡ controlCode buffer) wher
   pub body-back : (ad : Adapter) (medium medium′ body : List ℕ) (c : Change)
       → leaves (c .code) (applied ad c) medium′ body ≡ served ad medium code (take (length buffer - 28) (drop 28 buffer))
       → answer (servedBy ad c) medium′ (take 28 buffer ++ (body ++ drop (length buffer - 28) (drop 28 buffer))) ≡ inBuffer buffer (served ad medium (controlCode buffer) (bodyOf buffer))
-  body-back ad medium medium′ body c p =
-      let q : drop (length buffer - 28) (drop 28 buffer) ≡ [] = drop-of-length-le (drop 28 buffer) {i = length buffer - 28} (rw length-drop (le-refl (length buffer - 28))) in
-      rw (q, append-nil) (ap (inBuffer buffer) (rw (rest, e) at p))
+  body-back ad medium medium′ body c p = rw (rest-end buffer 28, append-nil) (ap (inBuffer buffer) (rw (rest, e) at p))
 
 -- ---- a call whose number is 0
 

@@ -3,20 +3,20 @@ use mathlib.Core.Path.{_≡_, refl, sym, _∙_, ap}
 use mathlib.Core.Bool.{true, false}
 use mathlib.Core.List.{List, [], _++_, append-assoc, append-nil}
 use Prim.Native.Nat.{ℕ, zero, suc, _+_, _-_, _*_, _/_, _<_, _≤_}
-use native.Mathlib.Nat.{le-refl, add-assoc, sub-zero, add-zero, zero-add, add-sub-cancel-left}
+use native.Mathlib.Nat.{add-assoc, sub-zero, add-zero, zero-add, add-sub-cancel-left}
 use native.Mathlib.Omega.{arith}
 use lib.ListN.{length, take, drop, length-append, length-drop, drop-of-length-le, take-append-drop}
 use lib.Seq.{take-at, drop-at, drop-drop, take-take, length-take-le}
 use borrow.Author.Tests.{le-leb, lt-leb, ne-eqb}
 use Rattle.laws.specs.Choice.{came-then, came-else}
-use Rattle.laws.specs.Splice.{part, splice, rest, drop-take}
+use Rattle.laws.specs.Splice.{part, splice, rest, rest-end, drop-take}
 use Rattle.wire.specs.Number.{number, bytes, length-bytes}
 use Rattle.state.specs.declared.State.{State}
 use Rattle.state.specs.declared.Opened.{Opened}
 use Rattle.state.specs.Open.{openedOf}
 use Rattle.level.specs.declared.Level.{Level}
 use Rattle.adapter.specs.declared.Adapter.{Adapter}
-use Rattle.adapter.specs.Adapter.{withPhy, mediumSize}
+use Rattle.adapter.specs.Adapter.{mediumSize}
 use Rattle.change.specs.declared.Change.{Change}
 use Rattle.change.specs.Changed.{keeps, applied}
 use Rattle.dispatch.specs.Request.{Outcome, outcome, stateNumber, bufferNumber, callNumber, stateOf, replies, untouched, answeredAt, handled}
@@ -121,9 +121,7 @@ pub sized-left : (s s′ : State) (medium medium′ request buffer line : List �
     → left s′ medium′ buffer line ≡ afterRequest (handled s medium (take (length request - 4) (drop 4 request)))
     → left s′ medium′ (take 4 request ++ (buffer ++ drop (length request - 4) (drop 4 request))) line ≡ afterSized s medium request
 unfolding afterSized
-sized-left s s′ medium medium′ request buffer line p =
-    let q : drop (length request - 4) (drop 4 request) ≡ [] = drop-of-length-le (drop 4 request) {i = length request - 4} (rw length-drop (le-refl (length request - 4))) in
-    rw (q, append-nil) (ap (behindLength (take 4 request)) (rw rest at p))
+sized-left s s′ medium medium′ request buffer line p = rw (rest-end request 4, append-nil) (ap (behindLength (take 4 request)) (rw rest at p))
 
 -- ---- a run that ends
 
@@ -184,20 +182,11 @@ length-line : (reply : Reply) → length (lineOf reply) ≡ 8
 length-line reply = length-append (bytes 4 (reply .call)) (bytes 4 (codeOf reply)) ∙ rw (length-bytes, length-bytes) refl
 
 -- the first request of a session, with its length
-turned-first : (s : State) (medium session : List ℕ)
+sized-first : (s : State) (medium session : List ℕ)
     → afterSized s medium (take (4 + sizeOf session) session) ≡ behindLength (take 4 session) (afterRequest (handled s medium (firstOf session)))
 unfolding afterSized part
-turned-first s medium session =
+sized-first s medium session =
     rw (take-take 4 (4 + sizeOf session) session (omega arith), drop-take 4 (4 + sizeOf session) session, add-sub-cancel-left) refl
-
--- the adapter with what a change stores, where it stores one and where it does not
-pub applied-stored : (ad bd : Adapter) (c : Change) → c .stored ≡ true → bd ≡ withPhy ad (c .number .0) (c .phy) → bd ≡ applied ad c
-unfolding applied
-applied-stored ad bd c e p = rw e p
-
-pub applied-kept : (ad : Adapter) (c : Change) → c .stored ≡ false → ad ≡ applied ad c
-unfolding applied
-applied-kept ad c e = rw e refl
 
 -- what goes on holding of the state
 module _ (level : Level) (ad bd : Adapter) (c : Change) (medium medium′ request request′ line : List ℕ)
@@ -261,7 +250,7 @@ module _ (r : Ran) (s : State) (medium session lines : List ℕ) (at count room 
         let o : Outcome = handled s medium (firstOf (drop at session)) in
         let x : end ≡ at + (4 + sizeOf (drop at session)) = whole-at session at end e h .1 in
         let n : end - at ≡ 4 + sizeOf (drop at session) = omega arith in
-        let q : left (stateOf level ad) medium′ request line ≡ behindLength (take 4 (drop at session)) (afterRequest o) = rw n at p ∙ turned-first s medium (drop at session) in
+        let q : left (stateOf level ad) medium′ request line ≡ behindLength (take 4 (drop at session)) (afterRequest o) = rw n at p ∙ sized-first s medium (drop at session) in
         let size : length request ≡ end - at = l ∙ length-take-le (end - at) (drop at session) (rw length-drop (omega arith)) in
         let eight : length line ≡ 8 = ap (λ (x : Left). length (x .line)) q ∙ length-line (replyOf o) in
         let front : length (take at session) ≡ at = length-take-le at session (omega arith) in

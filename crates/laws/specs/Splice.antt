@@ -41,6 +41,10 @@ module _ {A : Type 0} where
   pub rest : (l : List A) (k : ℕ) → take (length l - k) (drop k l) ≡ drop k l
   rest l k = ap (λ (n : ℕ). take n (drop k l)) (sym (length-drop k l)) ∙ take-length (drop k l)
 
+  -- and nothing stands behind it
+  pub rest-end : (l : List A) (k : ℕ) → drop (length l - k) (drop k l) ≡ []
+  rest-end l k = drop-of-length-le (drop k l) {i = length l - k} (rw length-drop (omega arith))
+
   -- a part of a part
   pub part-part : (l : List A) (a n b m : ℕ) → b + m ≤ n → part (part l a n) b m ≡ part l (a + b) m
   unfolding part

@@ -103,15 +103,3 @@ pub fn patch(d: &mut [u8], s: &[u8], k: usize)
         at = past(s, at, b' ');
     }
 }
-
-// Byte i becomes step × (i + 1) modulo 251, so step 0 makes zeros.
-pub fn fill(d: &mut [u8], step: u32) {
-    let by = step % 251;
-    let mut v = 0;
-    let mut i = 0;
-    while i < d.len() {
-        v = (v + by) % 251;
-        d[i] = v as u8;
-        i += 1;
-    }
-}

@@ -21,7 +21,6 @@ use level::Level;
 use libc::STDIN_FILENO;
 use libc::STDOUT_FILENO;
 use line::field;
-use line::fill;
 use line::past;
 use line::patch;
 use line::word;
@@ -54,6 +53,18 @@ fn open(text: &[u8], file: &[u8], medium: &[u8]) -> State {
     say_number(r.call as u64);
     show(file, medium, state);
     state
+}
+
+// Byte i becomes step × (i + 1) modulo 251, so step 0 makes zeros.
+fn fill(d: &mut [u8], step: u32) {
+    let by = step % 251;
+    let mut v = 0;
+    let mut i = 0;
+    while i < d.len() {
+        v = (v + by) % 251;
+        d[i] = v as u8;
+        i += 1;
+    }
 }
 
 fn open_line(s: &[u8], file: &[u8], medium: &mut [u8]) -> State

@@ -3,10 +3,11 @@ use mathlib.Core.Path.{_≡_}
 use Prim.Native.Nat.{_-_, _*_, _≤_}
 use borrow.Author.Needs.{needs}
 use lib.ListN.{length, take, drop}
+use Rattle.change.specs.Laws.{applied-stored, applied-kept}
 use Rattle.dispatch.specs.Request.{stateNumber, stateOf}
 use Rattle.claims.specs.Held.{Sized}
 use Rattle.exports.specs.Session.{ranFrom}
-use Rattle.exports.specs.Laws.{behind, line-lent, request-there, applied-stored, applied-kept, sized-next, number-next, run-starts, run-ends, run-full, run-goes-on}
+use Rattle.exports.specs.Laws.{behind, line-lent, request-there, sized-next, number-next, run-starts, run-ends, run-full, run-goes-on}
 use Rattle.exports.proofs.session.run.Statement.{statement}
 use Rattle.exports.proofs.session.run.Tie as tie
 

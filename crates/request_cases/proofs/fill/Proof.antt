@@ -1,10 +1,10 @@
--- `request_cases::line::fill` meets its contract. Assumes nothing.
+-- `request_cases::fill` meets its contract. Assumes nothing.
 use mathlib.Core.Path.{_≡_}
 use Prim.Native.Nat.{_≤_, _<_, _-_}
 use lib.ListN.{length}
 use borrow.Author.Needs.{needs}
-use Rattle.request_cases.proofs.line.fill.Statement.{statement}
-use Rattle.request_cases.proofs.line.fill.Tie as tie
+use Rattle.request_cases.proofs.fill.Statement.{statement}
+use Rattle.request_cases.proofs.fill.Tie as tie
 
 abbrev Inv-loop : tie.InvT-loop
 Inv-loop d₀ step by v₀ i₀ d v i = (i ≤ length d₀) × (length d ≡ length d₀) × (v < 251) × (by < 251)
