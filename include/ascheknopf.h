@@ -1,18 +1,21 @@
 /* Ascheknopf, a simulator of a SAS host adapter, for programs in C and C++. `rt staticlib exports` makes the archive to link,
    target/staticlib/libexports.a; it needs nothing but the C library.
 
-   Both functions work on bytes that the caller lends; they allocate nothing and keep nothing between calls. Any bytes of any length may be
-   given: a wrong text, file or medium gets its number, a wrong request its line. A buffer that is written must not overlap another, and
-   no pointer may be null, even where its length is 0.
+   The simulator is two calls: ascheknopf_open opens an adapter, and ascheknopf_request handles one request. ascheknopf_run does both for
+   a whole session. All work on bytes that the caller lends; they allocate nothing and keep nothing between calls. Any bytes of any length
+   may be given, as a state too: what is wrong gets its number. A buffer that is written must not overlap another. A pointer may be null
+   where its length is 0.
 
    text     the level text, such as "CSMI=Full;", without a final zero byte
    file     the adapter file; its byte 0 is the number of phys, 1 to 32 (the program's limit of 7 is not the library's)
    medium   the disks of the phys, 8,192 bytes each
-   session  requests one after the other: for each a length of 4 bytes, up to 32,768, then so many bytes, which begin with the
-            28-byte SRB_IO_CONTROL of CSMI
-   record   a line of 8 bytes for each request: 4 bytes the call's number, 4 bytes the return code (section 10 of T10 04-284r0)
+   state    what the adapter remembers between calls, ASCHEKNOPF_STATE_SIZE bytes, described below
+   buffer   one request, which begins with the 28-byte SRB_IO_CONTROL of CSMI, and then its reply
+   session  requests one after the other: for each a length of 4 bytes, then so many bytes
+   record   a line of 8 bytes for each request: 4 bytes the call's number, 4 bytes the return code
 
-   All numbers in these bytes are little-endian. */
+   All numbers in these bytes are little-endian. A call's number is document 01's; a return code is that of section 10 of T10 04-284r0,
+   CSMI, whose sections are cited below. */
 #ifndef ASCHEKNOPF_H
 #define ASCHEKNOPF_H
 
@@ -23,21 +26,66 @@
 extern "C" {
 #endif
 
+/* The state. Every byte is named here, and every byte string of this size stands for a state, one that keeps the rules of document 01 or
+   one that ascheknopf_request refuses with 107. It holds no pointers: it may be copied, stored and compared. */
+#define ASCHEKNOPF_STATE_SIZE 4785
+
+#define ASCHEKNOPF_LEVEL 0       /* 0 None, 1 Restricted, 2 Limited, 3 Full; any other value is refused */
+#define ASCHEKNOPF_PHY_COUNT 1   /* p, 1 to 32 */
+#define ASCHEKNOPF_ROW_COUNT 2   /* a, 0 to 64 */
+#define ASCHEKNOPF_DRIVER_INFO 3 /* the Information of code 1 (6.1.4.1) */
+#define ASCHEKNOPF_DRIVER_INFO_SIZE 174
+
+/* Phy n, for n from 0 to 31; those from p on are 0. The offsets below are in its bytes. */
+#define ASCHEKNOPF_PHY(n) (177 + 104 * (size_t)(n))
+#define ASCHEKNOPF_PHY_SIZE 104
+#define ASCHEKNOPF_PHY_ENTITY 0 /* a PHY_ENTITY (6.7.4.2) */
+#define ASCHEKNOPF_PHY_ENTITY_SIZE 64
+#define ASCHEKNOPF_PHY_COUNTERS 64  /* four of 32 bits: invalid dword, running disparity, loss of dword sync, phy reset problem (6.9) */
+#define ASCHEKNOPF_PHY_SIGNATURE 80 /* its signature FIS */
+#define ASCHEKNOPF_PHY_SIGNATURE_SIZE 20
+#define ASCHEKNOPF_PHY_HELD 100    /* 1 if the signature is held, else 0 */
+#define ASCHEKNOPF_PHY_FIXED 101   /* 1 if set phy info may not change it, else 0 */
+#define ASCHEKNOPF_PHY_LOWEST 102  /* the device's lowest rate: 8 is 1.5 Gb/s, 9 is 3.0 Gb/s; 0 with no device */
+#define ASCHEKNOPF_PHY_HIGHEST 103 /* its highest */
+
+/* Row i, for i from 0 to 63; those from a on are 0. The offsets below are in its bytes. */
+#define ASCHEKNOPF_ROW(i) (3505 + 20 * (size_t)(i))
+#define ASCHEKNOPF_ROW_SIZE 20
+#define ASCHEKNOPF_ROW_SAS_ADDRESS 0 /* 8 bytes */
+#define ASCHEKNOPF_ROW_SAS_LUN 8     /* 8 bytes */
+#define ASCHEKNOPF_ROW_HOST 16
+#define ASCHEKNOPF_ROW_PATH 17
+#define ASCHEKNOPF_ROW_TARGET 18
+#define ASCHEKNOPF_ROW_LUN 19
+
+/* Opens an adapter: the number of the opening. A state of another size is 107, before every other check, and stays as it was. Else 0 is
+   accepted, and the state is the level of the text and what the file holds; 101 text, 102 file length, 103 block check, 104 count or
+   field, 105 shared row and 106 medium length are refused, and the state is ASCHEKNOPF_STATE_SIZE zero bytes. What the state was before
+   is not looked at. The medium is only read. */
+uint32_t ascheknopf_open(const uint8_t *text, size_t text_len,
+                         const uint8_t *file, size_t file_len,
+                         const uint8_t *medium, size_t medium_len,
+                         uint8_t *state, size_t state_len);
+
+/* Handles one request: its number. 107 is a state of another size or one that breaks a rule, such as the zero state; 106 a medium that is
+   not 8,192 bytes for each phy; 100 a buffer under 28 bytes; they are tested in this order, and state, medium and buffer stay as they
+   were. Else it is 0: the buffer is the reply, with the return code in its bytes 20 to 23, and state and medium are what the request made
+   of them. They, and no others, are for the next request. */
+uint32_t ascheknopf_request(uint8_t *state, size_t state_len,
+                            uint8_t *medium, size_t medium_len,
+                            uint8_t *buffer, size_t buffer_len);
+
 /* The return code in the line of a request that got none. */
 #define ASCHEKNOPF_NO_CODE 0xFFFFFFFFu
 
-/* The number of an opening: 0 accepted, 101 text, 102 file length, 103 block check, 104 count or field, 105 shared row,
-   106 medium length. Nothing is written. */
-uint32_t ascheknopf_open(const uint8_t *text, size_t text_len,
-                         const uint8_t *file, size_t file_len,
-                         const uint8_t *medium, size_t medium_len);
+/* Opens the adapter and handles the requests of the session in order, as the two calls would one by one; the state stays inside. A reply
+   stands in its request's place, the lengths stay, and the commands that write do so in the medium. The line of a request is 0 and its
+   return code. After a refused opening the zero state goes on: every request, a short one too, gets 107; else one under 28 bytes gets 100;
+   both with ASCHEKNOPF_NO_CODE, and request and medium stay.
 
-/* Opens the adapter and handles the requests of the session in order. A reply stands in its request's place, the lengths stay, and
-   the commands that write do so in the medium. The line of a request is 0 and its return code. After a refused opening every request,
-   a short one too, gets 107; else one under 28 bytes gets 100; both with ASCHEKNOPF_NO_CODE, and request and medium stay.
-
-   It ends at the session's end, at a request that is cut short or over 32,768 bytes, or where the record has no room for another line; that
-   request, what stands behind it and the rest of the record stay as they were. Gives the number of requests handled. */
+   It ends at the session's end, at a request that is cut short, or where the record has no room for another line; that request, what
+   stands behind it and the rest of the record stay as they were. A request may have any length. Gives the number of requests handled. */
 size_t ascheknopf_run(const uint8_t *text, size_t text_len,
                       const uint8_t *file, size_t file_len,
                       uint8_t *medium, size_t medium_len,

@@ -1,54 +1,20 @@
-/* The samples and damaged input through include/ascheknopf.h. What is expected was written down from document 01 and the samples'
+/* The samples and damaged input through ascheknopf_run. What is expected was written down from document 01 and the samples'
    descriptions, the return codes by section 10 of 001. Runs in the repository's root. */
 #include "ascheknopf.h"
 
-#include <stdio.h>
-#include <string.h>
+#define PROGRAM "session.c"
+#include "check.h"
 
-enum { PHYS = 4, FILE_SIZE = 6 * 512, DISK = 8192, SECTOR = 512, HEADER = 28, LINE = 8 };
+enum { PHYS = 4, FILE_SIZE = 6 * 512, DISK = 8192, SECTOR = 512, HEADER = 28, LINE = 8, LONG = 100000 };
 
 static const char RESTRICTED[] = "CSMI=Restricted;", FULL[] = "CSMI=Full;";
 static const uint32_t NONE = ASCHEKNOPF_NO_CODE;
 
 /* What a run gets. Medium, session and record are then what it left. */
 static struct run {
-    uint8_t file[FILE_SIZE], medium[PHYS * DISK], session[4 + 32769], record[20 * LINE];
+    uint8_t file[FILE_SIZE], medium[PHYS * DISK], session[4 + LONG], record[20 * LINE];
     size_t file_len, medium_len, session_len, record_len;
 } run, before;
-
-static int passed, failed;
-
-static void check(const char *what, int holds)
-{
-    if (holds)
-        passed++;
-    else
-        printf("FAIL session.c: %s\n", what), failed++;
-}
-
-static uint32_t word(const uint8_t *at)
-{
-    return at[0] | (uint32_t)at[1] << 8 | (uint32_t)at[2] << 16 | (uint32_t)at[3] << 24;
-}
-
-static int all(const uint8_t *at, size_t length, uint8_t value)
-{
-    while (length > 0 && at[length - 1] == value)
-        length--;
-    return length == 0;
-}
-
-static size_t read_file(const char *sample, const char *name, uint8_t *bytes, size_t room)
-{
-    char path[64];
-    snprintf(path, sizeof path, "samples/%s/%s", sample, name);
-    FILE *file = fopen(path, "rb");
-    size_t length = file ? fread(bytes, 1, room, file) : 0;
-    if (file)
-        fclose(file);
-    check(path, length > 0);
-    return length;
-}
 
 /* A sample, a medium of zeros and a record of 5Ah. */
 static void start(const char *sample)
@@ -61,9 +27,12 @@ static void start(const char *sample)
     run.record_len = sizeof run.record;
 }
 
+/* The number that an opening by call has, which the run's opening is to have too. */
 static uint32_t opened(const char *text)
 {
-    return ascheknopf_open((const uint8_t *)text, strlen(text), run.file, run.file_len, run.medium, run.medium_len);
+    static uint8_t state[ASCHEKNOPF_STATE_SIZE];
+    return ascheknopf_open((const uint8_t *)text, strlen(text), run.file, run.file_len, run.medium, run.medium_len,
+                           state, sizeof state);
 }
 
 static size_t handled(const char *text)
@@ -163,16 +132,40 @@ static void damaged_sessions(void)
     check("a cut request", handled(FULL) == 11 && session_stays(place(12)));
     run.session_len = 3;
     check("a cut length", handled(FULL) == 0);
-    run.session_len = sizeof run.session;
+    /* The driver info of the sample in a longer buffer. */
+    start("good");
+    run.session_len = 4 + 32769;
     memcpy(run.session, "\x01\x80\0\0", 4);
-    check("a request of 32,769 bytes", handled(FULL) == 0 && session_stays(0));
-    run.session[0] = 0;
-    check("a request of 32,768 bytes", handled(FULL) == 1);
+    check("a request of 32,769 bytes", handled(FULL) == 1 && line_is(1, 0, 0) && memcmp(body(1), "csmilab", 8) == 0);
+    run.session[0] = 2;
+    check("a request of 32,770 bytes, one missing", handled(FULL) == 0 && session_stays(0));
+    run.session_len = 4 + LONG;
+    memcpy(run.session, "\xA0\x86\x01\0", 4);
+    check("a request of 100,000 bytes", handled(FULL) == 1 && line_is(1, 0, 0));
     start("good");
     run.record_len = 5 * LINE + 7;
     check("a short record", handled(FULL) == 5 && session_stays(place(6)) && all(run.record + 5 * LINE, 7, 0x5A));
     run.record_len = 0;
     check("no record", handled(FULL) == 0 && session_stays(0));
+}
+
+/* A null pointer with length 0, for each argument and for all. */
+static void null_pointers(void)
+{
+    const uint8_t *text = (const uint8_t *)FULL;
+    start("good");
+    check("null: all", ascheknopf_run(NULL, 0, NULL, 0, NULL, 0, NULL, 0, NULL, 0) == 0);
+    check("null: session", ascheknopf_run(text, 10, run.file, run.file_len, run.medium, run.medium_len, NULL, 0,
+                                          run.record, run.record_len) == 0);
+    check("null: record", ascheknopf_run(text, 10, run.file, run.file_len, run.medium, run.medium_len, run.session, run.session_len,
+                                         NULL, 0) == 0);
+    check("null: nothing is written", all(run.record, sizeof run.record, 0x5A) && all(run.medium, sizeof run.medium, 0));
+    check("null: file", ascheknopf_run(text, 10, NULL, 0, run.medium, run.medium_len, run.session, run.session_len,
+                                       run.record, run.record_len) == 12 && line_is(1, 107, NONE) && line_is(12, 107, NONE));
+    check("null: medium", ascheknopf_run(text, 10, run.file, run.file_len, NULL, 0, run.session, run.session_len,
+                                         run.record, run.record_len) == 12 && line_is(1, 107, NONE) && line_is(12, 107, NONE));
+    check("null: text", ascheknopf_run(NULL, 0, run.file, run.file_len, run.medium, run.medium_len, run.session, run.session_len,
+                                       run.record, run.record_len) == 12 && line_is(1, 0, 0) && line_is(12, 0, 0));
 }
 
 int main(void)
@@ -192,6 +185,6 @@ int main(void)
     sample("refusals", RESTRICTED, 16, refusals, 0);
     damaged_openings();
     damaged_sessions();
-    printf("%d passed, %d failed\n", passed, failed);
-    return failed > 0;
+    null_pointers();
+    return finish();
 }

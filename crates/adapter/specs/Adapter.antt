@@ -1,6 +1,7 @@
 -- The tables and counters of an adapter, and the rules that the file and the state share (document 01, "Adapter file" and
 -- "From the state"). Assumes nothing.
 use mathlib.Core.Bool.{Bool, _&&_}
+use mathlib.Core.List.{List}
 use Prim.Native.Nat.{ℕ, _+_, _-_, _*_}
 use lib.Dec.{leb}
 use lib.ListN.{getD, set, replicate}
@@ -8,8 +9,15 @@ use Rattle.laws.specs.All.{allTo}
 use Rattle.phy.specs.declared.Phy.{Phy}
 use Rattle.phy.specs.Block.{noPhy, zeroPhy}
 use Rattle.fields.specs.Rules.{fieldsHold, phyZero}
-use Rattle.rows.specs.Row.{zeroRow, zeroFrom}
-use Rattle.adapter.specs.declared.Adapter.{Adapter}
+use Rattle.rows.specs.Row.{Row, zeroRow, zeroFrom}
+
+-- tables and counters: the phy count p, the row count a, the driver info, 32 phys and 64 rows, zero past p and a
+pub record Adapter : Type 0 where
+  pub «phy_count» : ℕ
+  pub «row_count» : ℕ
+  pub info : List ℕ
+  pub phys : List Phy
+  pub rows : List Row
 
 -- phy n of an adapter
 abbrev pub phyIn : Adapter → ℕ → Phy

@@ -1,2 +1,3 @@
 pub mod Adapter
+pub mod Changed
 pub mod Store

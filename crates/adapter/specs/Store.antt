@@ -15,8 +15,7 @@ use Rattle.phy.specs.declared.Phy.{Phy}
 use Rattle.phy.specs.Block.{noPhy}
 use Rattle.fields.specs.Rules.{fieldsHold, phyZero}
 use Rattle.rows.specs.Row.{zeroFrom}
-use Rattle.adapter.specs.declared.Adapter.{Adapter}
-use Rattle.adapter.specs.Adapter.{phyIn, withPhy, countsHold, fieldsAll, zeroPast}
+use Rattle.adapter.specs.Adapter.{Adapter, phyIn, withPhy, countsHold, fieldsAll, zeroPast}
 
 -- the phy stored, and every other
 pub phy-stored : (ad : Adapter) (n : ℕ) (phy : Phy) → n < length (ad .phys) → phyIn (withPhy ad n phy) n ≡ phy

@@ -1,5 +1,6 @@
--- Demand 3, in one piece (document 01, "Two runs and the last writer"). Its proof is `claim` in Demand3.antt. `openedOf` and `handled`, of
--- which a run is made, are what the contracts of `state::open` and `dispatch::request` equate the calls with. Assumes nothing.
+-- Demand 3, in one piece (document 01, "Two runs and the last writer"). Its proof is `claim` in Demand3.antt. That each request of a run is
+-- answered and carried out as document 01 defines stands in `run` (Run.antt), which is made of `openedOf` and `handled`; the contracts of
+-- `state::open` and `dispatch::request` equate the calls with these two. Assumes nothing.
 use mathlib.Core.Path.{_≡_}
 use mathlib.Core.Bool.{true}
 use mathlib.Core.List.{List}
@@ -33,6 +34,16 @@ pub record LastWriterHalf (text file medium : List ℕ) (end : End) : Type 0 whe
   pub refusedState : (openedOf text file medium .call ≡ 0 → ⊥) → end .state ≡ zeroState
   pub refusedMedium : (openedOf text file medium .call ≡ 0 → ⊥) → end .medium ≡ medium
 
+-- what holds of each run by itself, whatever its level
+pub record OneRun (text file medium : List ℕ) (requests : List (List ℕ)) (end : End) : Type 0 where
+  -- every request of its list was answered, in order
+  pub answered : sentOf (exchanges (end .log)) ≡ requests
+  -- a request changes no level: it is the opening's at the end of this list, and so of every list that begins it
+  pub level : end .state .level ≡ openedOf text file medium .state .level
+  -- the reply to a denied request is the request with return code 4, and call number 0
+  pub denials : All (λ (e : Entry). e .denied ≡ true → e .exchange .reply ≡ denial (e .exchange .sent)) (end .log)
+  pub last : LastWriterHalf text file medium end
+
 -- the ends of the lower and the higher run, compared
 pub record Comparison (lower higher : End) : Type 0 where
   -- "Tables, counters and disks are every field of the state but the level, and every byte of the medium"
@@ -40,8 +51,6 @@ pub record Comparison (lower higher : End) : Type 0 where
   pub disks : lower .medium ≡ higher .medium
   -- the requests that both were given got the same replies
   pub replies : given (lower .log) ≡ exchanges (higher .log)
-  -- the reply to a denied request is the request with return code 4, and call number 0
-  pub denials : All (λ (e : Entry). e .denied ≡ true → e .exchange .reply ≡ denial (e .exchange .sent)) (lower .log)
 
 -- "Both runs start with the same file and the same medium bytes"
 module _ (low high file medium : List ℕ) (requests : List (List ℕ)) where
@@ -53,14 +62,11 @@ module _ (low high file medium : List ℕ) (requests : List (List ℕ)) where
   higherRun = wholeRun high file medium (sentOf (given (lowerRun .log)))
 
   pub record TwoRuns : Type 0 where
-    -- every request of each list was answered, in order
-    pub lowerAnswered : sentOf (exchanges (lowerRun .log)) ≡ requests
-    pub higherAnswered : sentOf (exchanges (higherRun .log)) ≡ sentOf (given (lowerRun .log))
+    pub lower : OneRun low file medium requests lowerRun
+    pub higher : OneRun high file medium (sentOf (given (lowerRun .log))) higherRun
     -- "each text gives a level, the lower run's at most the higher's"
     pub comparison : textLevel low .call ≡ 0 → textLevel high .call ≡ 0 → textLevel low .level .0 ≤ textLevel high .level .0
         → Comparison lowerRun higherRun
-    pub lowerLast : LastWriterHalf low file medium lowerRun
-    pub higherLast : LastWriterHalf high file medium higherRun
 
 -- demand 3: for every file and medium, every list of requests, and two texts
 abbrev pub Claim : Type 0

@@ -1,13 +1,14 @@
 -- The comparison of two runs, by induction over the requests. Assumes nothing.
-use mathlib.Core.Path.{_≡_, refl, sym, _∙_, ap, ap₂}
-use mathlib.Core.Bool.{Bool, true, false, true≢false}
+use mathlib.Core.Path.{_≡_, refl, _∙_, ap, ap₂}
+use mathlib.Core.Bool.{Bool, true, false}
 use mathlib.Core.List.{List, [], _∷_}
 use Prim.Native.Nat.{ℕ, _≤_}
+use Rattle.laws.specs.Cases.{All}
 use Rattle.laws.specs.Choice.{by-bool}
-use Rattle.adapter.specs.declared.Adapter.{Adapter}
-use Rattle.state.specs.declared.State.{State}
+use Rattle.adapter.specs.Adapter.{Adapter}
+use Rattle.state.specs.State.{State}
 use Rattle.dispatch.specs.Request.{Outcome, handled}
-use Rattle.claims.specs.Run.{Reply, Exchange, Entry, End, replyOf, entryOf, preceded, denied, run, exchanges, given, sentOf}
+use Rattle.claims.specs.Run.{Reply, Exchange, Entry, End, replyOf, entryOf, preceded, denied, denial, run, exchanges, given, sentOf}
 use Rattle.claims.specs.Claim.{Comparison}
 use Rattle.claims.specs.Steps.{denied-step, level-kept, Same, same-step}
 
@@ -16,6 +17,19 @@ pub all-answered : (s : State) (medium : List ℕ) (requests : List (List ℕ)) 
 unfolding run exchanges sentOf
 all-answered s medium [] = refl
 all-answered s medium (q ∷ qs) = ap (λ (xs : List (List ℕ)). q ∷ xs) (all-answered _ _ qs)
+
+-- keeps its level
+pub level-same : (s : State) (medium : List ℕ) (requests : List (List ℕ)) → run s medium requests .state .level ≡ s .level
+unfolding run
+level-same s medium [] = refl
+level-same s medium (q ∷ qs) = level-same (handled s medium q .state) (handled s medium q .medium) qs ∙ level-kept s medium q
+
+-- and changes of a denied request the return code alone
+pub all-denied : (s : State) (medium : List ℕ) (requests : List (List ℕ))
+    → All (λ (e : Entry). e .denied ≡ true → e .exchange .reply ≡ denial (e .exchange .sent)) (run s medium requests .log)
+unfolding run
+all-denied s medium [] = tt
+all-denied s medium (q ∷ qs) = ((λ d. ap replyOf (denied-step s medium q d)), all-denied (handled s medium q .state) (handled s medium q .medium) qs)
 
 -- the step of two states that differ in the level alone
 same-states : (s t : State) (m n request : List ℕ) → s .adapter ≡ t .adapter → m ≡ n → s .level .0 ≤ t .level .0 → t .level .0 ≤ 3
@@ -44,7 +58,6 @@ after-denied s m request lower higher d c =
       tables = c .tables;
       disks = c .disks;
       replies = g ∙ c .replies;
-      denials = ((λ _. ap replyOf (denied-step s m request d)), c .denials);
     })
 
 -- one that is not denied, before both
@@ -60,13 +73,12 @@ after-given s t m n request lower higher d p c =
       disks = c .disks;
       replies = given-kept (entryOf s m request) (lower .log) d
           ∙ ap₂ (λ (x : Reply) (xs : List Exchange). record { sent = request; reply = x } ∷ xs) r (c .replies);
-      denials = ((λ e. absurd (true≢false (sym e ∙ d))), c .denials);
     }
 
 pub compare : (s t : State) (m n : List ℕ) (requests : List (List ℕ)) → s .adapter ≡ t .adapter → m ≡ n → s .level .0 ≤ t .level .0 → t .level .0 ≤ 3
     → Comparison (run s m requests) (run t n (sentOf (given (run s m requests .log))))
 unfolding run given sentOf exchanges
-compare s t m n [] a e h k = record { tables = ap (λ (x : Adapter). record { level = t .level; adapter = x }) a; disks = e; replies = refl; denials = tt }
+compare s t m n [] a e h k = record { tables = ap (λ (x : Adapter). record { level = t .level; adapter = x }) a; disks = e; replies = refl }
 compare s t m n (q ∷ qs) a e h k =
     let o : Outcome = handled s m q in
     let p : Outcome = handled t n q in

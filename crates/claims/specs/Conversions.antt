@@ -15,12 +15,10 @@ use Rattle.laws.specs.Fill.{getD-padded}
 use Rattle.laws.specs.Splice.{part, splice, part-splice, part-above}
 use Rattle.codes.specs.Codes.{success, getScsiAddress, getDeviceAddress, noScsiAddress, noDeviceAddress}
 use Rattle.wire.specs.Number.{bytes, length-bytes}
-use Rattle.rows.specs.declared.Row.{Row}
 use Rattle.rows.specs.Read.{length-device, length-os}
-use Rattle.rows.specs.Row.{noRow, zeroRow, rowAt, rowsHold, deviceIndex, osIndex}
+use Rattle.rows.specs.Row.{Row, noRow, zeroRow, rowAt, rowsHold, deviceIndex, osIndex}
 use Rattle.rows.specs.Conversions.{device-found, os-found, device-own, os-own}
-use Rattle.adapter.specs.declared.Adapter.{Adapter}
-use Rattle.adapter.specs.Adapter.{countsHold, fieldsAll, zeroPast, mediumSize}
+use Rattle.adapter.specs.Adapter.{Adapter, countsHold, fieldsAll, zeroPast, mediumSize}
 use Rattle.link.specs.All.{negotiatedAll}
 use Rattle.layout.specs.Layout.{phyCount, rowCount, rowPlace}
 use Rattle.file.specs.File.{rowAt as fileRow, adapterOf}
@@ -28,8 +26,7 @@ use Rattle.file.specs.Laws.{row-within}
 use Rattle.reports.specs.Report.{Report, filled, report}
 use Rattle.reports.specs.ScsiAddress.{osBytes, scsiAddress}
 use Rattle.reports.specs.DeviceAddress.{deviceBytes, deviceAddress}
-use Rattle.state.specs.declared.State.{State}
-use Rattle.state.specs.State.{tablesHold, adapterHolds, stateHolds}
+use Rattle.state.specs.State.{State, tablesHold, adapterHolds, stateHolds}
 use Rattle.state.specs.Open.{openedOf}
 use Rattle.state.specs.Accepted.{Open, open-accepted, open-holds}
 use Rattle.header.specs.Table.{structureSize}

@@ -8,7 +8,7 @@ use native.Mathlib.Decide.{ℕ-discrete}
 use lib.Dec.{eqb}
 use lib.ListN.{length, getD}
 use Rattle.laws.specs.Choice.{either}
-use Rattle.codes.specs.Codes.{badField, sharedRow, mediumLength, badState}
+use Rattle.codes.specs.Codes.{badState}
 use Rattle.phy.specs.declared.Phy.{Phy}
 use Rattle.phy.specs.Block.{length-entity}
 use Rattle.phy.specs.Entity.{portOf, programmedMinimum, programmedMaximum}
@@ -18,29 +18,23 @@ use Rattle.level.specs.Text.{textLevel}
 use Rattle.level.specs.Bound.{level-bound}
 use Rattle.layout.specs.Layout.{phyCount, rowCount, phyBlock, fileLength}
 use Rattle.block.specs.Check.{blockAt, length-block}
-use Rattle.file.specs.declared.FileRead.{FileRead}
-use Rattle.file.specs.File.{phyAt, adapterOf, fileRead}
+use Rattle.file.specs.File.{FileRead, phyAt, adapterOf, fileRead}
 use Rattle.file.specs.Accepted.{phy-read, length-phys}
 use Rattle.disk.specs.Laws.{sector}
-use Rattle.rows.specs.Row.{rowsHold}
-use Rattle.adapter.specs.declared.Adapter.{Adapter}
-use Rattle.adapter.specs.Adapter.{phyIn, zeroAdapter, countsHold, mediumSize}
+use Rattle.adapter.specs.Adapter.{phyIn, zeroAdapter, countsHold}
 use Rattle.adapter.specs.Store.{phys-bound}
-use Rattle.link.specs.All.{negotiatedAll}
 use Rattle.set_phy_info.specs.SetPhyInfo.{resulting}
 use Rattle.passthrough.specs.Passthrough.{diskOf}
-use Rattle.state.specs.declared.State.{State}
-use Rattle.state.specs.declared.Opened.{Opened}
-use Rattle.state.specs.State.{adapterHolds, stateHolds, zeroState}
-use Rattle.state.specs.Open.{refused, judged, openedFile, openedText, openedOf}
+use Rattle.state.specs.State.{State, adapterHolds, stateHolds, zeroState}
+use Rattle.state.specs.Open.{Opened, openNumber, openedFile, openedText, openedOf}
 use Rattle.state.specs.Accepted.{Open, open-accepted}
 use Rattle.dispatch.specs.Request.{stateNumber, bufferNumber, callNumber, untouched, handled}
 use Rattle.claims.specs.Run.{run, wholeRun, exchanges, given, sentOf}
 use Rattle.claims.specs.LastWriter.{sectorBy, rateBy}
-use Rattle.claims.specs.Claim.{LastWriterHalf, lowerRun, Claim}
+use Rattle.claims.specs.Claim.{LastWriterHalf, OneRun, lowerRun, Claim}
 use Rattle.claims.specs.Phys.{setNow, minimum-set, maximum-set}
 use Rattle.claims.specs.Effects.{FromFile, from-step, sector-step, rate-step}
-use Rattle.claims.specs.Compare.{all-answered, compare}
+use Rattle.claims.specs.Compare.{all-answered, level-same, all-denied, compare}
 
 -- ---- over a list of requests
 
@@ -98,19 +92,12 @@ opened-from text file medium h =
 -- ---- where it refuses
 
 pub opened-zero : (text file medium : List ℕ) → (openedOf text file medium .call ≡ 0 → ⊥) → openedOf text file medium .state ≡ zeroState
-unfolding openedOf openedText openedFile judged
+unfolding openedOf openedText openedFile
 opened-zero text file medium =
     either Zero (eqb (textLevel text .call) 0)
-    (either Zero (eqb (fileRead file .call) 0)
-    (either Zero (negotiatedAll ad)
-    (either Zero (rowsHold (ad .rows) (ad .«row_count»)) (either Zero (eqb (mediumSize ad) (length medium)) (λ n. absurd (n refl)) (λ _. refl)) (λ _. refl))
-    (λ _. refl))
-    (λ _. refl))
+    (either Zero (eqb (openNumber (fileRead file) (length medium)) 0) (λ n. absurd (n refl)) (λ _. refl))
     (λ _. refl)
   where
-    ad : Adapter
-    ad = fileRead file .adapter
-
     Zero : Opened → Type 0
     Zero o = (o .call ≡ 0 → ⊥) → o .state ≡ zeroState
 
@@ -162,17 +149,9 @@ paired-cond true p q = p
 paired-cond false p q = q
 
 opened-paired : (l m : Level) (f : FileRead) (size : ℕ) → l .0 ≤ m .0 → m .0 ≤ 3 → Paired (openedFile l f size) (openedFile m f size)
-unfolding openedFile judged zeroState
+unfolding openedFile zeroState
 opened-paired l m f size h k =
-    paired-cond (eqb (f .call) 0)
-    (paired-cond (negotiatedAll (f .adapter))
-    (paired-cond (rowsHold (f .adapter .rows) (f .adapter .«row_count»))
-    (paired-cond (eqb (mediumSize (f .adapter)) size) (record { tables = refl; levels = h; bound = k }) (zero mediumLength)) (zero sharedRow))
-    (zero badField))
-    (zero (f .call))
-  where
-    zero : (call : ℕ) → Paired (refused call) (refused call)
-    zero call = record { tables = refl; levels = omega arith; bound = omega arith }
+    paired-cond (eqb (openNumber f size) 0) (record { tables = refl; levels = h; bound = k }) (record { tables = refl; levels = omega arith; bound = omega arith })
 
 texts-paired : (low high file medium : List ℕ) → textLevel low .call ≡ 0 → textLevel high .call ≡ 0 → textLevel low .level .0 ≤ textLevel high .level .0
     → Paired (openedOf low file medium) (openedOf high file medium)
@@ -180,16 +159,24 @@ unfolding openedOf openedText
 texts-paired low high file medium p q h =
     rw (p, q) (opened-paired (textLevel low .level) (textLevel high .level) (fileRead file) (length medium) h (level-bound high))
 
+-- what holds of each run by itself
+one-run : (text file medium : List ℕ) (requests : List (List ℕ)) → OneRun text file medium requests (wholeRun text file medium requests)
+unfolding wholeRun
+one-run text file medium requests =
+    record {
+      answered = all-answered (openedOf text file medium .state) medium requests;
+      level = level-same (openedOf text file medium .state) medium requests;
+      denials = all-denied (openedOf text file medium .state) medium requests;
+      last = last-writer text file medium requests;
+    }
+
 pub claim : Claim
 unfolding wholeRun
 claim low high file medium requests =
-    let list = sentOf (given (lowerRun low high file medium requests .log)) in
     record {
-      lowerAnswered = all-answered (openedOf low file medium .state) medium requests;
-      higherAnswered = all-answered (openedOf high file medium .state) medium list;
+      lower = one-run low file medium requests;
+      higher = one-run high file medium (sentOf (given (lowerRun low high file medium requests .log)));
       comparison = λ p q h.
           let o = texts-paired low high file medium p q h in
           compare (openedOf low file medium .state) (openedOf high file medium .state) medium medium requests (o .tables) refl (o .levels) (o .bound);
-      lowerLast = last-writer low file medium requests;
-      higherLast = last-writer high file medium list;
     }

@@ -18,8 +18,7 @@ use Rattle.phy.specs.declared.PortIdentifier.{PortIdentifier}
 use Rattle.disk.specs.Disk.{fis, lba, dataLength, served, Served, Lent}
 use Rattle.disk.specs.Ways.{served-by}
 use Rattle.disk.specs.Laws.{sector, writes, covers, sectorAfter, disk-length, sector-after}
-use Rattle.adapter.specs.declared.Adapter.{Adapter}
-use Rattle.adapter.specs.Adapter.{mediumSize, phyIn}
+use Rattle.adapter.specs.Adapter.{Adapter, mediumSize, phyIn}
 use Rattle.select.specs.declared.Selection.{Selection}
 use Rattle.select.specs.Select.{selection, selectBy, selectIn, lowestOf, phyGiven, portGiven, portIn}
 use Rattle.select.specs.Laws.{selected-below}

@@ -20,22 +20,20 @@ use Rattle.layout.specs.Layout.{phyCount}
 use Rattle.file.specs.File.{phyAt}
 use Rattle.disk.specs.Disk.{command, dataLength}
 use Rattle.disk.specs.Laws.{sector, replyStatus, writes, covers}
-use Rattle.adapter.specs.declared.Adapter.{Adapter}
-use Rattle.adapter.specs.Adapter.{mediumSize, phyIn}
-use Rattle.change.specs.Changed.{left as changedBy}
+use Rattle.adapter.specs.Adapter.{Adapter, mediumSize, phyIn}
 use Rattle.set_phy_info.specs.SetPhyInfo.{resulting, setPhyInfo as setInfo}
 use Rattle.link_errors.specs.LinkErrors.{linkErrors}
 use Rattle.select.specs.Select.{lowestOf, selection, selectBy, selectIn}
 use Rattle.select.specs.Laws.{selection-past}
 use Rattle.passthrough.specs.Passthrough.{phyAsked, portAsked, diskOf, passthrough}
-use Rattle.state.specs.declared.State.{State}
+use Rattle.state.specs.State.{State}
 use Rattle.header.specs.Header.{controlCode, bodyOf}
 use Rattle.service.specs.Serve.{Served, changed, passed, served}
 use Rattle.service.specs.Laws.{passthrough-lent}
 use Rattle.dispatch.specs.Request.{Outcome, inBuffer, replied, handled}
 use Rattle.claims.specs.Run.{Reply, Exchange, replyOf}
 use Rattle.claims.specs.LastWriter.{granted, selects, writesSector, sectorAfter, writesRate, rateAfter}
-use Rattle.claims.specs.Phys.{Moved, moved-refl, setNow, set-code, set-moved, errors-moved, errors-settings, set-rate}
+use Rattle.claims.specs.Phys.{Moved, moved-refl, setNow, set-body, set-code, set-moved, errors-moved, errors-settings, set-rate}
 use Rattle.claims.specs.Disks.{passed-sector, passed-selected, passed-length, passed-code}
 use Rattle.claims.specs.Ways.{served-by, Ready, handled-by, granted-code, not-granted, in-buffer, status-shown}
 
@@ -187,12 +185,12 @@ module _ (file : List ℕ) (s : State) (medium : List ℕ) (t : FromFile file s 
         -- what a code 21 sets is what its reply tells
         told : Ready s medium request → controlCode request ≡ setPhyInfo → (n : ℕ)
             → rate (phyIn (setInfo (s .adapter) body .adapter) n)
-            ≡ rateAfter place n (answerOf (changed medium (changedBy (setInfo (s .adapter) body) body))) (rate (phyIn (s .adapter) n))
+            ≡ rateAfter place n (answerOf (changed medium (setInfo (s .adapter) body))) (rate (phyIn (s .adapter) n))
         unfolding rateAfter writesRate
         told r e n =
             let c = setInfo (s .adapter) body in
             let g = granted-code (take 28 request ++ body) (c .code) (in-buffer request body (r .long)) (set-code (s .adapter) body) in
-            rw (g, e)
+            rw (set-body (s .adapter) body, g, e)
             (set-rate place rate sets (s .adapter) body n (t .phys) few (λ m h. t .entities m (rw (t .count) at h))
             ∙ by-bool
             (λ (b : Bool). cond (b && eqb (getD body 0 0) n && not (eqb (getD body place 0) 0)) (getD body place 0) (rate (phyIn (s .adapter) n))

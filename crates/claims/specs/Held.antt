@@ -17,24 +17,22 @@ use Rattle.phy.specs.Changed.{kept-configured}
 use Rattle.fields.specs.Rules.{rangeHolds, fieldsHold}
 use Rattle.fields.specs.Hold.{fields-cleared, fields-configured}
 use Rattle.rows.specs.Row.{rowsHold}
-use Rattle.adapter.specs.declared.Adapter.{Adapter}
-use Rattle.adapter.specs.Adapter.{phyIn, withPhy, zeroAdapter, countsHold, fieldsAll, zeroPast, mediumSize}
+use Rattle.adapter.specs.Adapter.{Adapter, phyIn, withPhy, zeroAdapter, countsHold, fieldsAll, zeroPast, mediumSize}
 use Rattle.adapter.specs.Store.{fields-at, fields-stored, zero-stored, phys-bound}
 use Rattle.link.specs.Rule.{negotiatedHolds}
 use Rattle.link.specs.Kept.{holds-cleared, holds-reset, holds-disabled, fields-reset, fields-disabled}
 use Rattle.link.specs.All.{negotiatedAll, negotiated-at, negotiated-stored}
 use Rattle.set_phy_info.specs.declared.PhySetting.{PhySetting}
-use Rattle.change.specs.Changed.{Served as Result, Changed}
+use Rattle.adapter.specs.Changed.{Changed}
 use Rattle.set_phy_info.specs.SetPhyInfo.{asked, programmable, parametersHold, ratesHold, linked, setTo, setPhyInfo}
 use Rattle.link_errors.specs.LinkErrors.{linkErrors}
 use Rattle.passthrough.specs.Passthrough.{passthrough}
-use Rattle.state.specs.declared.State.{State}
-use Rattle.state.specs.State.{tablesHold, adapterHolds, stateHolds, zeroState}
+use Rattle.state.specs.State.{State, tablesHold, adapterHolds, stateHolds, zeroState, stateWith}
 use Rattle.state.specs.Open.{openedOf}
 use Rattle.header.specs.Header.{controlCode, bodyOf}
 use Rattle.service.specs.Laws.{passthrough-lent}
 use Rattle.service.specs.Serve.{Served}
-use Rattle.dispatch.specs.Request.{Outcome, stateOf, stateNumber, handled}
+use Rattle.dispatch.specs.Request.{Outcome, stateNumber, handled}
 use Rattle.claims.specs.Phys.{Moved, moved-refl, named, setNow, set-by, errors-by, set-moved, errors-moved}
 use Rattle.claims.specs.Disks.{passed-length}
 use Rattle.claims.specs.Ways.{served-by, Ready, handled-by}
@@ -137,7 +135,7 @@ module _ (ad : Adapter) (z : Sized ad) (h : adapterHolds ad ≡ true) where
     set-holds : adapterHolds (setPhyInfo ad body .adapter) ≡ true
     unfolding setNow asked
     set-holds =
-        set-by ad body (λ (s : Result). adapterHolds (s .adapter) ≡ true) (λ _ _ _. h)
+        set-by ad body (λ (s : Changed). adapterHolds (s .adapter) ≡ true) (λ _ _ _. h)
         (λ k a r.
         let phy : Phy = phyIn ad (named body) in
         stored-holds (named body) (setNow phy body) k
@@ -163,7 +161,7 @@ module _ (s : State) (medium request : List ℕ) (z : Sized (s .adapter)) where
   stays = record { sized = z; number = refl }
 
   goes-on : Ready s medium request → (bd : Adapter) (after : List ℕ) → Moved (s .adapter) bd → (adapterHolds (s .adapter) ≡ true → adapterHolds bd ≡ true)
-      → length after ≡ length medium → Goes (stateOf (s .level) bd) after
+      → length after ≡ length medium → Goes (stateWith (s .level) bd) after
   unfolding stateHolds
   goes-on r bd after v k l =
       let a : leb (s .level .0) 3 ≡ true = both-left (leb (s .level .0) 3) (adapterHolds (s .adapter)) (r .holds) in
@@ -173,7 +171,7 @@ module _ (s : State) (medium request : List ℕ) (z : Sized (s .adapter)) where
       record {
         sized = sized-moved (s .adapter) bd z v;
         number =
-            number-zero (stateOf (s .level) bd) (length after) (both (leb (s .level .0) 3) (adapterHolds bd) a (k b)) (omega arith)
+            number-zero (stateWith (s .level) bd) (length after) (both (leb (s .level .0) 3) (adapterHolds bd) a (k b)) (omega arith)
             ∙ sym (number-zero s (length medium) (r .holds) (sym (r .disks)));
       }
 
@@ -184,7 +182,7 @@ module _ (s : State) (medium request : List ℕ) (z : Sized (s .adapter)) where
   goes : Goes (handled s medium request .state) (handled s medium request .medium)
   goes =
       handled-by s medium request (λ (o : Outcome). Goes (o .state) (o .medium)) (λ _ _. stays) (λ _ _ _ _. stays)
-      (λ r. served-by (s .adapter) medium (controlCode request) body (λ (x : Served). Goes (stateOf (s .level) (x .adapter)) (x .medium))
+      (λ r. served-by (s .adapter) medium (controlCode request) body (λ (x : Served). Goes (stateWith (s .level) (x .adapter)) (x .medium))
       (λ _. goes-on r (setPhyInfo (s .adapter) body .adapter) medium (set-moved (s .adapter) body (z .phys) (bound r)) (λ h. set-holds (s .adapter) z h body) refl)
       (λ _. goes-on r (linkErrors (s .adapter) body .adapter) medium (errors-moved (s .adapter) body (z .phys) (bound r)) (λ h. errors-hold (s .adapter) z h body) refl)
       (λ e. goes-on r (s .adapter) (passthrough (s .adapter) medium body .medium) (moved-refl (s .adapter)) (λ h. h)

@@ -17,12 +17,10 @@ use Rattle.phy.specs.Change.{cleared, configured}
 use Rattle.phy.specs.Kept.{Kept, Settings, kept-refl, kept-trans, settings-refl}
 use Rattle.phy.specs.Changed.{kept-cleared, settings-cleared, kept-configured, minimum-configured, maximum-configured}
 use Rattle.link.specs.Kept.{kept-reset, settings-reset, kept-disabled, settings-disabled}
-use Rattle.adapter.specs.declared.Adapter.{Adapter}
-use Rattle.adapter.specs.Adapter.{phyIn, withPhy}
+use Rattle.adapter.specs.Adapter.{Adapter, phyIn, withPhy}
 use Rattle.adapter.specs.Store.{phy-stored, phy-other, counts-stored}
 use Rattle.set_phy_info.specs.declared.PhySetting.{PhySetting}
-use Rattle.change.specs.declared.Change.{Change}
-use Rattle.change.specs.Changed.{keeps, stores, applied, Served, gives, servedBy, Changed, leaves, left}
+use Rattle.adapter.specs.Changed.{Stored, Changed, leaves, withBody}
 use Rattle.set_phy_info.specs.SetPhyInfo.{asked, resulting, parametersHold, ratesHold, linked, setTo, setChecked, setPhy, phySet, setPhyInfo}
 use Rattle.link_errors.specs.LinkErrors.{afterReset, linkErrors, reported}
 
@@ -91,15 +89,15 @@ unfoldable pub setNow : Phy → List ℕ → Phy
 setNow phy body =
     setTo phy (asked body) (resulting (getD body 2 0) (programmedMinimum phy)) (resulting (getD body 3 0) (programmedMaximum phy))
 
-pub set-by : (ad : Adapter) (body : List ℕ) (P : Served → Type 0) → ((code : ℕ) → 0 < code → code ≤ 2014 → P (gives code ad))
+pub set-by : (ad : Adapter) (body : List ℕ) (P : Changed → Type 0) → ((code : ℕ) → 0 < code → code ≤ 2014 → P (leaves code ad body))
     → (let phy = phyIn ad (named body) in
     named body < ad .«phy_count» → parametersHold (asked body) ≡ true
     → ratesHold phy (asked body) (resulting (getD body 2 0) (programmedMinimum phy)) (resulting (getD body 3 0) (programmedMaximum phy)) ≡ true
-    → P (gives success (withPhy ad (named body) (setNow phy body)))) → P (setPhyInfo ad body)
-unfolding setPhyInfo phySet setPhy setChecked asked setNow keeps stores applied
+    → P (leaves success (withPhy ad (named body) (setNow phy body)) body)) → P (setPhyInfo ad body)
+unfolding setPhyInfo phySet setPhy setChecked asked setNow
 set-by ad body P refused done =
     let phy : Phy = phyIn ad (named body) in
-    let Q : (Change → Type 0) = λ c. P (servedBy ad c) in
+    let Q : (Stored → Type 0) = λ s. P (withBody s body) in
     either-by Q (ltb (named body) (ad .«phy_count»))
     (λ h. either Q (eqb (phy .fixed) 1) (refused 2000 (omega arith) (omega arith))
     (either-by Q (parametersHold (asked body))
@@ -112,17 +110,21 @@ pub errors-by : (ad : Adapter) (body : List ℕ) (P : Changed → Type 0) → ((
     → (named body < ad .«phy_count»
     → P (leaves success (withPhy ad (named body) (cleared (phyIn ad (named body)))) (reported body (phyIn ad (named body) .counters))))
     → P (leaves success ad (reported body (phyIn ad (named body) .counters))) → P (linkErrors ad body)
-unfolding linkErrors afterReset keeps stores applied
+unfolding linkErrors afterReset
 errors-by ad body P refused cleared kept =
     either P (leb (getD body 1 0) 1)
     (either-by P (ltb (named body) (ad .«phy_count»))
-    (λ h. either (λ (c : Change). P (left (servedBy ad c) (reported body (phyIn ad (named body) .counters)))) (eqb (getD body 1 0) 1)
+    (λ h. either (λ (s : Stored). P (withBody s (reported body (phyIn ad (named body) .counters)))) (eqb (getD body 1 0) 1)
     (cleared (ltb-true (named body) (ad .«phy_count») h)) kept)
     (λ _. refused 2002 (omega arith) (omega arith)))
     (refused 3 (omega arith) (omega arith))
 
+pub set-body : (ad : Adapter) (body : List ℕ) → setPhyInfo ad body .body ≡ body
+unfolding setPhyInfo
+set-body ad body = refl
+
 pub set-code : (ad : Adapter) (body : List ℕ) → setPhyInfo ad body .code ≤ 2014
-set-code ad body = set-by ad body (λ (s : Served). s .code ≤ 2014) (λ _ _ k. k) (λ _ _ _. omega arith)
+set-code ad body = set-by ad body (λ (s : Changed). s .code ≤ 2014) (λ _ _ k. k) (λ _ _ _. omega arith)
 
 -- ---- what they keep
 
@@ -130,7 +132,7 @@ module _ (ad : Adapter) (body : List ℕ) (e : length (ad .phys) ≡ 32) (p : ad
   pub set-moved : Moved ad (setPhyInfo ad body .adapter)
   unfolding setNow
   set-moved =
-      set-by ad body (λ (s : Served). Moved ad (s .adapter)) (λ _ _ _. moved-refl ad)
+      set-by ad body (λ (s : Changed). Moved ad (s .adapter)) (λ _ _ _. moved-refl ad)
       (λ h _ _. moved-stored ad (named body) (setNow (phyIn ad (named body)) body) (omega arith) (λ k. set-kept (phyIn ad (named body)) (asked body) _ _ k))
 
   pub errors-moved : Moved ad (linkErrors ad body .adapter)
@@ -170,7 +172,7 @@ module _ (place : ℕ) (rate : Phy → ℕ) (sets : (phy : Phy) (body : List ℕ
       → ((m : ℕ) → m < ad .«phy_count» → length (phyIn ad m .entity) ≡ 64)
       → rate (phyIn (setPhyInfo ad body .adapter) n) ≡ rateSet (setPhyInfo ad body .code) body n (rate (phyIn ad n))
   set-rate ad body n e p l =
-      set-by ad body (λ (s : Served). rate (phyIn (s .adapter) n) ≡ rateSet (s .code) body n (rate (phyIn ad n)))
+      set-by ad body (λ (s : Changed). rate (phyIn (s .adapter) n) ≡ rateSet (s .code) body n (rate (phyIn ad n)))
       (λ code k _. rw (ne-eqb code 0 (λ z. omega arith)))
       (λ h _ _. stored-by (λ (m : ℕ) (x : Phy). rate x ≡ rateSet success body m (rate (phyIn ad m))) ad (named body) (setNow (phyIn ad (named body)) body) (omega arith)
       (rw (eq-eqb (named body) (named body) refl) (sets (phyIn ad (named body)) body (l (named body) h) ∙ resulting-set (getD body place 0) (rate (phyIn ad (named body)))))

@@ -8,7 +8,7 @@ use lib.ListN.{length}
 use Rattle.laws.specs.Splice.{splice}
 use Rattle.codes.specs.Codes.{success, writeAttempted}
 use Rattle.wire.specs.Number.{bytes}
-use Rattle.state.specs.declared.State.{State}
+use Rattle.state.specs.State.{State}
 use Rattle.state.specs.Open.{openedOf}
 use Rattle.header.specs.Header.{headerCode, above}
 use Rattle.dispatch.specs.Request.{Outcome, callNumber, handled}

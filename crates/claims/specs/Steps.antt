@@ -13,9 +13,8 @@ use Rattle.laws.specs.Splice.{splice}
 use Rattle.codes.specs.Codes.{success, writeAttempted}
 use Rattle.wire.specs.Number.{bytes}
 use Rattle.level.specs.declared.Level.{Level}
-use Rattle.adapter.specs.declared.Adapter.{Adapter}
-use Rattle.state.specs.declared.State.{State}
-use Rattle.state.specs.State.{stateHolds}
+use Rattle.adapter.specs.Adapter.{Adapter}
+use Rattle.state.specs.State.{State, stateHolds}
 use Rattle.header.specs.Table.{need}
 use Rattle.header.specs.Header.{controlCode, bodyOf, headerCode, above, accessCode}
 use Rattle.dispatch.specs.Request.{Outcome, stateNumber, bufferNumber, callNumber, untouched, answered, answeredAt, handled}

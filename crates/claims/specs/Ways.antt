@@ -14,14 +14,11 @@ use Rattle.codes.specs.Codes.{setPhyInfo, getLinkErrors, stpPassthru, success}
 use Rattle.wire.specs.Number.{number, bytes, length-bytes, number-bytes}
 use Rattle.level.specs.declared.Level.{Level}
 use Rattle.disk.specs.Laws.{replyStatus}
-use Rattle.adapter.specs.declared.Adapter.{Adapter}
-use Rattle.adapter.specs.Adapter.{mediumSize}
-use Rattle.change.specs.Changed.{left as changedBy}
+use Rattle.adapter.specs.Adapter.{Adapter, mediumSize}
 use Rattle.set_phy_info.specs.SetPhyInfo.{setPhyInfo as setInfo}
 use Rattle.link_errors.specs.LinkErrors.{linkErrors}
 use Rattle.passthrough.specs.Passthrough.{passthrough}
-use Rattle.state.specs.declared.State.{State}
-use Rattle.state.specs.State.{stateHolds}
+use Rattle.state.specs.State.{State, stateHolds}
 use Rattle.header.specs.Table.{structureSize, dataSize}
 use Rattle.header.specs.Header.{headerLength, controlCode, lengthField, bodyOf, signatureHolds, lengthHolds, codeChecked, headerCode, above, accessCode}
 use Rattle.header.specs.Laws.{access-room}
@@ -33,7 +30,7 @@ use Rattle.claims.specs.LastWriter.{granted}
 -- ---- a request that passed the level check
 
 pub served-by : (ad : Adapter) (medium : List ℕ) (code : ℕ) (body : List ℕ) (P : Served → Type 0)
-    → (code ≡ setPhyInfo → P (changed medium (changedBy (setInfo ad body) body)))
+    → (code ≡ setPhyInfo → P (changed medium (setInfo ad body)))
     → (code ≡ getLinkErrors → P (changed medium (linkErrors ad body)))
     → (code ≡ stpPassthru → P (passed ad (passthrough ad medium body)))
     → ((code ≡ setPhyInfo → ⊥) → (code ≡ stpPassthru → ⊥) → P (changed medium (reported ad (reportOf ad code body))))

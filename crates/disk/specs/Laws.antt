@@ -1,6 +1,6 @@
 -- What the layers above say of a served request: what it keeps, what its reply shows, and which sectors it writes, judged by
 -- the request and its reply alone (document 01, "Two runs and the last writer"). Assumes nothing.
-use mathlib.Core.Path.{_≡_, refl, sym, _∙_, ap}
+use mathlib.Core.Path.{_≡_, refl, sym, _∙_}
 use mathlib.Core.Bool.{Bool, true, false, cond, _&&_, true≢false}
 use mathlib.Core.List.{List}
 use Prim.Native.Nat.{ℕ, _+_, _-_, _*_, _<_, _≤_}

@@ -5,31 +5,23 @@ use mathlib.Core.List.{List, _++_, append-nil}
 use Prim.Native.Nat.{ℕ, _+_, _-_, _≤_}
 use native.Mathlib.Omega.{arith}
 use lib.Dec.{eqb, ltb}
-use lib.ListN.{length, take, drop}
+use lib.ListN.{length, getD, take, drop}
 use borrow.Author.Tests.{eqb-true, eqb-false, ltb-false}
 use Rattle.laws.specs.Choice.{by-bool, came-then, came-else}
-use Rattle.laws.specs.Splice.{splice, rest, rest-end}
-use Rattle.codes.specs.Codes.{shortBuffer}
-use Rattle.wire.specs.Number.{bytes}
+use Rattle.laws.specs.Splice.{part, splice, part-splice, rest, rest-end}
+use Rattle.codes.specs.Codes.{shortBuffer, badState}
+use mir.Syntax.{w32}
+use mir.Val.{Fits}
+use Rattle.wire.specs.Number.{number, bytes, length-bytes, number-bytes}
 use Rattle.level.specs.declared.Level.{Level}
-use Rattle.adapter.specs.declared.Adapter.{Adapter}
+use Rattle.tables.specs.Tables.{tablesOf}
 use Rattle.header.specs.Table.{structureSize, dataSize}
 use Rattle.header.specs.Header.{controlCode, bodyOf, accessCode}
-use Rattle.state.specs.declared.State.{State}
-use Rattle.state.specs.State.{stateHolds}
-use Rattle.state.specs.Laws.{state-phys, state-rows}
-use Rattle.adapter.specs.Adapter.{mediumSize}
-use Rattle.change.specs.declared.Change.{Change}
-use Rattle.change.specs.Changed.{keeps, applied, servedBy}
-use Rattle.service.specs.Serve.{leaves, served}
-use Rattle.dispatch.specs.Request.{outcome, stateNumber, bufferNumber, callNumber, untouched, answer, inBuffer, refused, answered, stateOf, replies, replied, answeredAt}
-
--- ---- a code that a callee gave
-
-pub refused-by : (ad : Adapter) (code : ℕ) (c : Change) → c ≡ keeps code → (n : ℕ) (medium buffer : List ℕ) → code ≡ n
-    → answer (servedBy ad c) medium buffer ≡ refused n ad medium buffer
-unfolding keeps applied
-refused-by ad code c e n medium buffer p = rw (e, p) refl
+use Rattle.state.specs.State.{State, stateWith, stateSize, stateOf, stateHolds}
+use Rattle.state.specs.Laws.{lent-tables, state-back, state-phys, state-rows}
+use Rattle.adapter.specs.Adapter.{Adapter, mediumSize}
+use Rattle.service.specs.Serve.{serves, served}
+use Rattle.dispatch.specs.Request.{outcome, stateNumber, bufferNumber, callNumber, untouched, answer, inBuffer, refused, answered, replied, answeredAt, handled, RequestCall}
 
 -- ---- the body, lent as the rest of the buffer
 
@@ -38,10 +30,10 @@ module _ (buffer : List ℕ) (code : ℕ) (e : code ≡ controlCode buffer) wher
       → structureSize code + dataSize code (take (length buffer - 28) (drop 28 buffer)) ≤ length (take (length buffer - 28) (drop 28 buffer))
   body-room h = rw (rest, e) h
 
-  pub body-back : (ad : Adapter) (medium medium′ body : List ℕ) (c : Change)
-      → leaves (c .code) (applied ad c) medium′ body ≡ served ad medium code (take (length buffer - 28) (drop 28 buffer))
-      → answer (servedBy ad c) medium′ (take 28 buffer ++ (body ++ drop (length buffer - 28) (drop 28 buffer))) ≡ inBuffer buffer (served ad medium (controlCode buffer) (bodyOf buffer))
-  body-back ad medium medium′ body c p = rw (rest-end buffer 28, append-nil) (ap (inBuffer buffer) (rw (rest, e) at p))
+  pub body-back : (ad bd : Adapter) (answer′ : ℕ) (medium medium′ body : List ℕ)
+      → serves answer′ bd medium′ body ≡ served ad medium code (take (length buffer - 28) (drop 28 buffer))
+      → answer answer′ bd medium′ (take 28 buffer ++ (body ++ drop (length buffer - 28) (drop 28 buffer))) ≡ inBuffer buffer (served ad medium (controlCode buffer) (bodyOf buffer))
+  body-back ad bd answer′ medium medium′ body p = rw (rest-end buffer 28, append-nil) (ap (inBuffer buffer) (rw (rest, e) at p))
 
 -- ---- a call whose number is 0
 
@@ -66,12 +58,6 @@ module _ (s : State) (medium buffer call : ℕ) (e : call ≡ callNumber s mediu
   pub heard-state : stateHolds s ≡ true
   heard-state = heard .0
 
-  pub heard-phys : s .adapter .«phy_count» ≤ 32
-  heard-phys = state-phys s (stateHolds s) refl (heard .0)
-
-  pub heard-rows : s .adapter .«row_count» ≤ 64
-  heard-rows = state-rows s (stateHolds s) refl (heard .0)
-
   pub heard-medium : medium ≡ mediumSize (s .adapter)
   heard-medium = sym (eqb-true (mediumSize (s .adapter)) medium (heard .1))
 
@@ -83,20 +69,68 @@ pub called : (s : State) (medium buffer number r : ℕ) → number ≡ stateNumb
 unfolding callNumber
 called s medium buffer number r e p = rw (← e) p
 
--- a call that gives a number
-pub untouched-by : (call n : ℕ) (s : State) (medium buffer : List ℕ) → call ≡ n
-    → outcome (record { call = call; state = s }) medium buffer ≡ untouched n s medium buffer
+-- ---- a code that a callee gave
+
+pub refused-by : (code n : ℕ) (ad : Adapter) (medium buffer : List ℕ) → code ≡ n → answer code ad medium buffer ≡ refused n ad medium buffer
+refused-by code n ad medium buffer e = rw e
+
+-- ---- an answer whose return code was written
+
+pub reply-by : (level : Level) (ad bd : Adapter) (code : ℕ) (medium medium′ buffer buffer′ reply : List ℕ)
+    → answer code bd medium′ buffer′ ≡ answered ad medium buffer (accessCode level buffer) → reply ≡ splice buffer′ 20 (bytes 4 code)
+    → outcome 0 (stateWith level bd) medium′ reply ≡ answeredAt (stateWith level ad) medium buffer
+unfolding answeredAt
+reply-by level ad bd code medium medium′ buffer buffer′ reply p q = rw q (ap (replied level) p)
+
+-- it is what stands there
+pub code-written : (code : ℕ) (buffer reply : List ℕ) → Fits w32 code → 28 ≤ length buffer → reply ≡ splice buffer 20 (bytes 4 code) → code ≡ number (part reply 20 4)
+code-written code buffer reply f h q =
+    let p : part (splice buffer 20 (bytes 4 code)) 20 4 ≡ bytes 4 code = rw (length-bytes 4 code) at (part-splice buffer 20 (bytes 4 code) (omega arith)) in
+    sym (ap (λ (l : List ℕ). number (part l 20 4)) q ∙ ap number p ∙ number-bytes 4 code (f .fits))
+
+-- ---- the tables lent from the state, and given back
+
+pub lent-phys : (s : List ℕ) → stateHolds (stateOf s) ≡ true → tablesOf (take (length s - 1) (drop 1 s)) .«phy_count» ≤ 32
+lent-phys s h = rw (lent-tables s) (state-phys (stateOf s) true (sym h) refl)
+
+pub lent-rows : (s : List ℕ) → stateHolds (stateOf s) ≡ true → tablesOf (take (length s - 1) (drop 1 s)) .«row_count» ≤ 64
+lent-rows s h = rw (lent-tables s) (state-rows (stateOf s) true (sym h) refl)
+
+pub lent-medium : (s : List ℕ) (medium : ℕ) → medium ≡ mediumSize (stateOf s .adapter) → medium ≡ mediumSize (tablesOf (take (length s - 1) (drop 1 s)))
+lent-medium s medium e = rw (lent-tables s) e
+
+pub reply-back : (s t medium medium′ buffer buffer′ : List ℕ) → length s ≡ stateSize
+    → outcome 0 (stateWith (record { 0 = getD s 0 0 }) (tablesOf t)) medium′ buffer′ ≡ answeredAt (stateWith (record { 0 = getD s 0 0 }) (tablesOf (take (length s - 1) (drop 1 s)))) medium buffer
+    → outcome 0 (stateOf (take 1 s ++ (t ++ drop (length s - 1) (drop 1 s)))) medium′ buffer′ ≡ answeredAt (stateOf s) medium buffer
+unfolding stateOf
+reply-back s t medium medium′ buffer buffer′ e p = rw (state-back s t e) (rw (rest s 1) at p)
+
+-- ---- the call
+
+-- its number is another one than 0
+pub untouched-by : (call n : ℕ) (s : State) (medium buffer : List ℕ) → call ≡ n → outcome call s medium buffer ≡ untouched n s medium buffer
 untouched-by call n s medium buffer e = rw e
 
--- an answer whose return code was written
-pub reply-by : (level : Level) (ad : Adapter) (c : Change) (medium medium′ buffer buffer′ reply : List ℕ)
-    → answer (servedBy ad c) medium′ buffer′ ≡ answered ad medium buffer (accessCode level buffer) → reply ≡ splice buffer′ 20 (bytes 4 (c .code))
-    → outcome (replies level ad c) medium′ reply ≡ answeredAt (stateOf level ad) medium buffer
-unfolding answeredAt
-reply-by level ad c medium medium′ buffer buffer′ reply p q = rw q (ap (replied level) p)
+module _ (state medium buffer : List ℕ) where
+  pub request-whole : (call : ℕ) (state′ medium′ buffer′ : List ℕ) → length state ≡ stateSize → length state′ ≡ length state
+      → outcome call (stateOf state′) medium′ buffer′ ≡ handled (stateOf state) medium buffer → RequestCall state medium buffer call state′ medium′ buffer′
+  request-whole call state′ medium′ buffer′ e l p =
+      record {
+        size = l;
+        whole = λ _. p;
+        otherCall = λ n. absurd (n e);
+        otherState = λ n. absurd (n e);
+        otherMedium = λ n. absurd (n e);
+        otherBuffer = λ n. absurd (n e);
+      }
 
--- the state with what was changed
-pub state-by : (s : State) (ad : Adapter) (c : Change) (medium medium′ buffer buffer′ : List ℕ) → ad ≡ applied (s .adapter) c
-    → outcome (replies (s .level) (s .adapter) c) medium′ buffer′ ≡ answeredAt (stateOf (s .level) (s .adapter)) medium buffer
-    → outcome (record { call = 0; state = stateOf (s .level) ad }) medium′ buffer′ ≡ answeredAt s medium buffer
-state-by s ad c medium medium′ buffer buffer′ e p = rw e p
+  pub request-other : (length state ≡ stateSize → ⊥) → RequestCall state medium buffer badState state medium buffer
+  request-other n =
+      record {
+        size = refl;
+        whole = λ e. absurd (n e);
+        otherCall = λ _. refl;
+        otherState = λ _. refl;
+        otherMedium = λ _. refl;
+        otherBuffer = λ _. refl;
+      }

@@ -1,2 +1,3 @@
 pub mod Request
 pub mod Laws
+pub mod Same

@@ -1,5 +1,6 @@
 -- One request (document 01, "Request", "From the input", "From the state"): the call's number, the state, the medium and the buffer
 -- that it leaves, after refusals as after success. Assumes nothing.
+use mathlib.Core.Path.{_≡_}
 use mathlib.Core.Bool.{cond}
 use mathlib.Core.List.{List, _++_}
 use Prim.Native.Nat.{ℕ}
@@ -9,14 +10,9 @@ use Rattle.laws.specs.Splice.{splice}
 use Rattle.codes.specs.Codes.{success, shortBuffer, mediumLength, badState}
 use Rattle.wire.specs.Number.{bytes}
 use Rattle.level.specs.declared.Level.{Level}
-use Rattle.adapter.specs.declared.Adapter.{Adapter}
-use Rattle.change.specs.declared.Change.{Change}
-use Rattle.change.specs.Changed.{applied, Served as Result}
-use Rattle.state.specs.declared.State.{State}
-use Rattle.state.specs.State.{stateHolds}
-use Rattle.adapter.specs.Adapter.{mediumSize}
+use Rattle.state.specs.State.{State, stateWith, stateSize, stateOf, stateHolds}
+use Rattle.adapter.specs.Adapter.{Adapter, mediumSize}
 use Rattle.header.specs.Header.{controlCode, bodyOf, accessCode}
-use Rattle.dispatch.specs.declared.Handled.{Handled}
 use Rattle.service.specs.Serve.{Served, served}
 
 -- what a call leaves
@@ -26,9 +22,8 @@ pub record Outcome : Type 0 where
   pub medium : List ℕ
   pub buffer : List ℕ
 
--- the same from what the code gives back and what it leaves in the two lent slices
-abbrev pub outcome : Handled → List ℕ → List ℕ → Outcome
-outcome h medium buffer = record { call = h .call; state = h .state; medium = medium; buffer = buffer }
+abbrev pub outcome : ℕ → State → List ℕ → List ℕ → Outcome
+outcome call s medium buffer = record { call = call; state = s; medium = medium; buffer = buffer }
 
 -- "state; medium length": the call's number of the first that fails, or 0. Nothing of the request is looked at
 unfoldable pub stateNumber : State → ℕ → ℕ
@@ -44,7 +39,7 @@ callNumber s medium buffer = bufferNumber (stateNumber s medium) buffer
 
 -- "with any other [number], buffer, state and medium are untouched"
 abbrev pub untouched : ℕ → State → List ℕ → List ℕ → Outcome
-untouched call s medium buffer = record { call = call; state = s; medium = medium; buffer = buffer }
+untouched call s medium buffer = outcome call s medium buffer
 
 -- the return code, the tables and counters, the disks, and the buffer before its return code is written
 pub record Answer : Type 0 where
@@ -53,35 +48,26 @@ pub record Answer : Type 0 where
   pub medium : List ℕ
   pub buffer : List ℕ
 
--- the same from a return code, an adapter, and what is left in the two lent slices
-abbrev pub answer : Result → List ℕ → List ℕ → Answer
-answer s medium buffer = record { code = s .code; adapter = s .adapter; medium = medium; buffer = buffer }
+abbrev pub answer : ℕ → Adapter → List ℕ → List ℕ → Answer
+answer code ad medium buffer = record { code = code; adapter = ad; medium = medium; buffer = buffer }
 
 -- the body back behind its header
 abbrev pub inBuffer : List ℕ → Served → Answer
-inBuffer buffer s = record { code = s .code; adapter = s .adapter; medium = s .medium; buffer = take 28 buffer ++ s .body }
+inBuffer buffer s = answer (s .code) (s .adapter) (s .medium) (take 28 buffer ++ s .body)
 
 -- a request that a check up to the level refuses: nothing is changed but the code, which is still to be written
 abbrev pub refused : ℕ → Adapter → List ℕ → List ℕ → Answer
-refused code ad medium buffer = record { code = code; adapter = ad; medium = medium; buffer = buffer }
+refused code ad medium buffer = answer code ad medium buffer
 
 -- "then the code's own checks", where the checks up to the level gave 0; else their code
 unfoldable pub answered : Adapter → List ℕ → List ℕ → ℕ → Answer
 answered ad medium buffer code =
     cond (eqb code success) (inBuffer buffer (served ad medium (controlCode buffer) (bodyOf buffer))) (refused code ad medium buffer)
 
--- the state of a level and an adapter
-abbrev pub stateOf : Level → Adapter → State
-stateOf level ad = record { level = level; adapter = ad }
-
 -- "the return code is bytes 20–23", and "The call's number is 0 when a return code is written"
 abbrev pub replied : Level → Answer → Outcome
 replied level a =
-    record { call = 0; state = stateOf level (a .adapter); medium = a .medium; buffer = splice (a .buffer) 20 (bytes 4 (a .code)) }
-
--- what a change, once its return code is written, gives back
-abbrev pub replies : Level → Adapter → Change → Handled
-replies level ad c = record { call = 0; state = stateOf level (applied ad c) }
+    outcome 0 (stateWith level (a .adapter)) (a .medium) (splice (a .buffer) 20 (bytes 4 (a .code)))
 
 -- a buffer of 28 bytes or more: the checks from HeaderLength on, and the return code written
 unfoldable pub answeredAt : State → List ℕ → List ℕ → Outcome
@@ -92,3 +78,13 @@ unfoldable pub handled : State → List ℕ → List ℕ → Outcome
 handled s medium buffer =
     cond (eqb (callNumber s (length medium) (length buffer)) 0) (answeredAt s medium buffer)
     (untouched (callNumber s (length medium) (length buffer)) s medium buffer)
+
+-- the call, on a state that is lent as bytes: its number, and the bytes of all three afterwards
+pub record RequestCall (state medium buffer : List ℕ) (call : ℕ) (state′ medium′ buffer′ : List ℕ) : Type 0 where
+  pub size : length state′ ≡ length state
+  pub whole : length state ≡ stateSize → outcome call (stateOf state′) medium′ buffer′ ≡ handled (stateOf state) medium buffer
+  -- another length is 107, before every other check, and nothing is touched
+  pub otherCall : (length state ≡ stateSize → ⊥) → call ≡ badState
+  pub otherState : (length state ≡ stateSize → ⊥) → state′ ≡ state
+  pub otherMedium : (length state ≡ stateSize → ⊥) → medium′ ≡ medium
+  pub otherBuffer : (length state ≡ stateSize → ⊥) → buffer′ ≡ buffer

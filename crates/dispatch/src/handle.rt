@@ -1,89 +1,94 @@
 // The call that handles one request.
-use crate::Handled;
-use adapter::Adapter;
-use change::Change;
-use change::unchanged;
 use level::Level;
-use state::State;
 ghost use mathlib.Core.Path.{_≡_};
-ghost use Prim.Native.Nat.{_+_, _<_, _≤_};
+ghost use mathlib.Core.Bool.{true};
+ghost use Prim.Native.Nat.{_+_, _≤_};
 ghost use lib.ListN.{length};
+ghost use Rattle.laws.specs.Splice.{part, splice};
+ghost use Rattle.wire.specs.Number.{number, bytes};
 ghost use Rattle.adapter.specs.Adapter.{mediumSize};
+ghost use Rattle.tables.specs.Tables.{tablesSize, tablesOf};
 ghost use Rattle.header.specs.Table.{structureSize, dataSize};
 ghost use Rattle.header.specs.Header.{controlCode, bodyOf, accessCode};
-ghost use Rattle.change.specs.Changed.{servedBy};
 ghost use Rattle.service.specs.Serve.{served};
-ghost use Rattle.dispatch.specs.Request.{outcome, stateNumber, bufferNumber, callNumber, answer, inBuffer, answered, stateOf, replies, answeredAt, handled};
+ghost use Rattle.state.specs.State.{stateWith, stateSize, stateOf, stateHolds};
+ghost use Rattle.dispatch.specs.Request.{outcome, stateNumber, bufferNumber, callNumber, answer, inBuffer, answered, answeredAt, handled, RequestCall};
 
 // The body behind the header is lent to the code's own checks and effect.
-fn serve_body(adapter: Adapter, medium: &mut [u8], buffer: &mut [u8]) -> Change
-    requires { ⌜ adapter .«phy_count» ≤ 32 ⌝ }
-    requires { ⌜ adapter .«row_count» ≤ 64 ⌝ }
-    requires { ⌜ length (now medium) ≡ mediumSize adapter ⌝ }
+fn serve_body(tables: &mut [u8], medium: &mut [u8], buffer: &mut [u8]) -> u32
+    requires { ⌜ length (now tables) ≡ tablesSize ⌝ }
+    requires { ⌜ (tablesOf (now tables) .«phy_count» ≤ 32) × (tablesOf (now tables) .«row_count» ≤ 64) ⌝ }
+    requires { ⌜ length (now medium) ≡ mediumSize (tablesOf (now tables)) ⌝ }
     requires { ⌜ 28 ≤ length (now buffer) ⌝ }
     requires { ⌜ structureSize (controlCode (now buffer)) + dataSize (controlCode (now buffer)) (bodyOf (now buffer)) ≤ length (bodyOf (now buffer)) ⌝ }
-    ensures { λ c. ⌜ answer (servedBy adapter c) (now (medium .exit)) (now (buffer .exit)) ≡ inBuffer (now (buffer .entry)) (served adapter (now (medium .entry)) (controlCode (now (buffer .entry))) (bodyOf (now (buffer .entry)))) ⌝ }
-    ensures { λ c. ⌜ c .number .0 < 32 ⌝ }
+    ensures { λ code. ⌜ answer code (tablesOf (now (tables .exit))) (now (medium .exit)) (now (buffer .exit))
+        ≡ inBuffer (now (buffer .entry)) (served (tablesOf (now (tables .entry))) (now (medium .entry)) (controlCode (now (buffer .entry))) (bodyOf (now (buffer .entry)))) ⌝ }
 {
     let control = header::control_code(buffer);
-    service::serve(adapter, medium, control, &mut buffer[28..])
+    service::serve(tables, medium, control, &mut buffer[28..])
 }
 
 // The header's checks and the level, and then the code's own.
-fn check_and_serve(level: Level, adapter: Adapter, medium: &mut [u8], buffer: &mut [u8]) -> Change
-    requires { ⌜ adapter .«phy_count» ≤ 32 ⌝ }
-    requires { ⌜ adapter .«row_count» ≤ 64 ⌝ }
-    requires { ⌜ length (now medium) ≡ mediumSize adapter ⌝ }
+fn check_and_serve(level: Level, tables: &mut [u8], medium: &mut [u8], buffer: &mut [u8]) -> u32
+    requires { ⌜ length (now tables) ≡ tablesSize ⌝ }
+    requires { ⌜ (tablesOf (now tables) .«phy_count» ≤ 32) × (tablesOf (now tables) .«row_count» ≤ 64) ⌝ }
+    requires { ⌜ length (now medium) ≡ mediumSize (tablesOf (now tables)) ⌝ }
     requires { ⌜ 28 ≤ length (now buffer) ⌝ }
-    ensures { λ c. ⌜ answer (servedBy adapter c) (now (medium .exit)) (now (buffer .exit)) ≡ answered adapter (now (medium .entry)) (now (buffer .entry)) (accessCode level (now (buffer .entry))) ⌝ }
-    ensures { λ c. ⌜ c .number .0 < 32 ⌝ }
+    ensures { λ code. ⌜ answer code (tablesOf (now (tables .exit))) (now (medium .exit)) (now (buffer .exit))
+        ≡ answered (tablesOf (now (tables .entry))) (now (medium .entry)) (now (buffer .entry)) (accessCode level (now (buffer .entry))) ⌝ }
 {
     let code = header::access_code(level, buffer);
     if code == codes::SUCCESS {
-        return serve_body(adapter, medium, buffer);
+        return serve_body(tables, medium, buffer);
     }
-    unchanged(code)
+    code
 }
 
-// A request in a state and a medium that passed their checks, in a buffer of 28 bytes or more. The return code is written here, and
-// nowhere else.
-pub fn reply(level: Level, adapter: Adapter, medium: &mut [u8], buffer: &mut [u8]) -> Change
-    requires { ⌜ adapter .«phy_count» ≤ 32 ⌝ }
-    requires { ⌜ adapter .«row_count» ≤ 64 ⌝ }
-    requires { ⌜ length (now medium) ≡ mediumSize adapter ⌝ }
+// The return code is written here, and nowhere else.
+fn write_code(buffer: &mut [u8], code: u32) -> u32
     requires { ⌜ 28 ≤ length (now buffer) ⌝ }
-    ensures { λ c. ⌜ outcome (replies level adapter c) (now (medium .exit)) (now (buffer .exit)) ≡ answeredAt (stateOf level adapter) (now (medium .entry)) (now (buffer .entry)) ⌝ }
-    ensures { λ c. ⌜ c .number .0 < 32 ⌝ }
+    ensures { λ _. ⌜ now (buffer .exit) ≡ splice (now (buffer .entry)) 20 (bytes 4 code) ⌝ }
+    ensures { λ r. ⌜ r ≡ number (part (now (buffer .exit)) 20 4) ⌝ }
 {
-    let c = check_and_serve(level, adapter, medium, buffer);
-    wire::write32(buffer, 20, c.code);
-    c
+    wire::write32(buffer, 20, code);
+    code
 }
 
-// The state with what the request changes.
-fn handle(state: State, medium: &mut [u8], buffer: &mut [u8]) -> Handled
-    requires { ⌜ state .adapter .«phy_count» ≤ 32 ⌝ }
-    requires { ⌜ state .adapter .«row_count» ≤ 64 ⌝ }
-    requires { ⌜ length (now medium) ≡ mediumSize (state .adapter) ⌝ }
+// What serves a request is lent the tables, and not the level's byte.
+fn reply_at(level: Level, tables: &mut [u8], medium: &mut [u8], buffer: &mut [u8]) -> u32
+    requires { ⌜ length (now tables) ≡ tablesSize ⌝ }
+    requires { ⌜ (tablesOf (now tables) .«phy_count» ≤ 32) × (tablesOf (now tables) .«row_count» ≤ 64) ⌝ }
+    requires { ⌜ length (now medium) ≡ mediumSize (tablesOf (now tables)) ⌝ }
     requires { ⌜ 28 ≤ length (now buffer) ⌝ }
-    ensures { λ h. ⌜ outcome h (now (medium .exit)) (now (buffer .exit)) ≡ answeredAt state (now (medium .entry)) (now (buffer .entry)) ⌝ }
+    ensures { λ _. ⌜ outcome 0 (stateWith level (tablesOf (now (tables .exit)))) (now (medium .exit)) (now (buffer .exit))
+        ≡ answeredAt (stateWith level (tablesOf (now (tables .entry)))) (now (medium .entry)) (now (buffer .entry)) ⌝ }
+    ensures { λ code. ⌜ code ≡ number (part (now (buffer .exit)) 20 4) ⌝ }
 {
-    let level = state.level;
-    let adapter = state.adapter;
-    let c = reply(level, adapter, medium, buffer);
-    let adapter = change::apply(adapter, c);
-    Handled {
-        call: 0,
-        state: State { level, adapter },
-    }
+    let code = check_and_serve(level, tables, medium, buffer);
+    write_code(buffer, code)
+}
+
+// A request in a state that 107 accepts and a medium of its length, in a buffer of 28 bytes or more. Gives the return code that was written.
+pub fn reply(state: &mut [u8], medium: &mut [u8], buffer: &mut [u8]) -> u32
+    requires { ⌜ length (now state) ≡ stateSize ⌝ }
+    requires { ⌜ stateHolds (stateOf (now state)) ≡ true ⌝ }
+    requires { ⌜ length (now medium) ≡ mediumSize (stateOf (now state) .adapter) ⌝ }
+    requires { ⌜ 28 ≤ length (now buffer) ⌝ }
+    ensures { λ _. ⌜ outcome 0 (stateOf (now (state .exit))) (now (medium .exit)) (now (buffer .exit))
+        ≡ answeredAt (stateOf (now (state .entry))) (now (medium .entry)) (now (buffer .entry)) ⌝ }
+    ensures { λ code. ⌜ code ≡ number (part (now (buffer .exit)) 20 4) ⌝ }
+{
+    let level = Level(state[0]);
+    reply_at(level, &mut state[1..], medium, buffer)
 }
 
 // The state and the medium's length, in this order.
-pub fn state_number(state: State, medium: usize) -> u32
-    ensures { λ r. ⌜ r ≡ stateNumber state medium ⌝ }
+pub fn state_number(state: &[u8], medium: usize) -> u32
+    requires { ⌜ length (now state) ≡ stateSize ⌝ }
+    ensures { λ r. ⌜ r ≡ stateNumber (stateOf (now (state .entry))) medium ⌝ }
 {
     if state::state_holds(state) {
-        if state::medium_size(state.adapter) == medium {
+        if state::medium_size(state) == medium {
             return 0;
         }
         return codes::MEDIUM_LENGTH;
@@ -103,19 +108,32 @@ pub fn buffer_number(number: u32, buffer: usize) -> u32
     number
 }
 
-fn call_number(state: State, medium: usize, buffer: usize) -> u32
-    ensures { λ r. ⌜ r ≡ callNumber state medium buffer ⌝ }
+fn call_number(state: &[u8], medium: usize, buffer: usize) -> u32
+    requires { ⌜ length (now state) ≡ stateSize ⌝ }
+    ensures { λ r. ⌜ r ≡ callNumber (stateOf (now (state .entry))) medium buffer ⌝ }
 {
     buffer_number(state_number(state, medium), buffer)
 }
 
-// Handles one request.
-pub fn request(state: State, medium: &mut [u8], buffer: &mut [u8]) -> Handled
-    ensures { λ h. ⌜ outcome h (now (medium .exit)) (now (buffer .exit)) ≡ handled state (now (medium .entry)) (now (buffer .entry)) ⌝ }
+fn handle(state: &mut [u8], medium: &mut [u8], buffer: &mut [u8]) -> u32
+    requires { ⌜ length (now state) ≡ stateSize ⌝ }
+    ensures { λ call. ⌜ outcome call (stateOf (now (state .exit))) (now (medium .exit)) (now (buffer .exit))
+        ≡ handled (stateOf (now (state .entry))) (now (medium .entry)) (now (buffer .entry)) ⌝ }
 {
     let call = call_number(state, medium.len(), buffer.len());
     if call == 0 {
+        reply(state, medium, buffer);
+        return 0;
+    }
+    call
+}
+
+// Handles one request. A state of another length is not touched, nor is anything else then.
+pub fn request(state: &mut [u8], medium: &mut [u8], buffer: &mut [u8]) -> u32
+    ensures { λ call. ⌜ RequestCall (now (state .entry)) (now (medium .entry)) (now (buffer .entry)) call (now (state .exit)) (now (medium .exit)) (now (buffer .exit)) ⌝ }
+{
+    if state.len() == state::SIZE {
         return handle(state, medium, buffer);
     }
-    Handled { call, state }
+    codes::BAD_STATE
 }

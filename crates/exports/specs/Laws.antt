@@ -1,6 +1,6 @@
 -- What the proofs of this crate cite. Assumes nothing.
 use mathlib.Core.Path.{_≡_, refl, sym, _∙_, ap}
-use mathlib.Core.Bool.{true, false}
+use mathlib.Core.Bool.{Bool, true, false}
 use mathlib.Core.List.{List, [], _++_, append-assoc, append-nil}
 use Prim.Native.Nat.{ℕ, zero, suc, _+_, _-_, _*_, _/_, _<_, _≤_}
 use native.Mathlib.Nat.{add-assoc, sub-zero, add-zero, zero-add, add-sub-cancel-left}
@@ -8,21 +8,19 @@ use native.Mathlib.Omega.{arith}
 use lib.ListN.{length, take, drop, length-append, length-drop, drop-of-length-le, take-append-drop}
 use lib.Seq.{take-at, drop-at, drop-drop, take-take, length-take-le}
 use borrow.Author.Tests.{le-leb, lt-leb, ne-eqb}
-use Rattle.laws.specs.Choice.{came-then, came-else}
+use Rattle.laws.specs.Choice.{by-bool, came-then, came-else}
 use Rattle.laws.specs.Splice.{part, splice, rest, rest-end, drop-take}
+use Rattle.codes.specs.Codes.{badState}
 use Rattle.wire.specs.Number.{number, bytes, length-bytes}
-use Rattle.state.specs.declared.State.{State}
-use Rattle.state.specs.declared.Opened.{Opened}
-use Rattle.state.specs.Open.{openedOf}
-use Rattle.level.specs.declared.Level.{Level}
-use Rattle.adapter.specs.declared.Adapter.{Adapter}
+use Rattle.state.specs.State.{State, stateSize, stateOf, stateHolds}
+use Rattle.state.specs.Laws.{state-phys}
+use Rattle.state.specs.Open.{Opened, OpenCall}
 use Rattle.adapter.specs.Adapter.{mediumSize}
-use Rattle.change.specs.declared.Change.{Change}
-use Rattle.change.specs.Changed.{keeps, applied}
-use Rattle.dispatch.specs.Request.{Outcome, outcome, stateNumber, bufferNumber, callNumber, stateOf, replies, untouched, answeredAt, handled}
-use Rattle.dispatch.specs.Laws.{called, heard-phys, heard-rows, heard-medium, heard-buffer}
+use Rattle.tables.specs.Laws.{length-phys, length-entity}
+use Rattle.dispatch.specs.Request.{Outcome, outcome, stateNumber, bufferNumber, callNumber, untouched, answeredAt, handled}
+use Rattle.dispatch.specs.Laws.{called, heard-state, heard-medium, heard-buffer}
 use Rattle.claims.specs.Run.{Reply, End, replyOf, entryOf, preceded, run, wholeRun}
-use Rattle.claims.specs.Held.{Sized, sized-step, number-step, sized-opened}
+use Rattle.claims.specs.Held.{Sized, number-step}
 use Rattle.exports.specs.Session.{sizeOf, wholeFirst, firstOf, behindFirst, requestsOf, withReplies, codeOf, lineOf, linesOf, Ran, ran, shown, ranFrom, sessionRun, endFrom, Left, left, afterRequest, behindLength, afterSized}
 
 -- ---- where a request ends
@@ -36,18 +34,13 @@ module _ (session : List ℕ) (at : ℕ) (k : at ≤ length session) where
   end-short h = rw (behind-at, lt-leb 4 (length session - at) h) refl
 
   module _ (size : ℕ) (e : size ≡ number (part session at 4)) (h : 4 ≤ length session - at) where
-    pub end-oversized : 32768 < size → at ≡ endFrom session at
+    pub end-cut : length session - at < 4 + size → at ≡ endFrom session at
     unfolding endFrom wholeFirst part
-    end-oversized o = rw (behind-at, le-leb 4 (length session - at) h, ← e, lt-leb size 32768 o) refl
+    end-cut c = rw (behind-at, le-leb 4 (length session - at) h, ← e, lt-leb (4 + size) (length session - at) c) refl
 
-    module _ (o : size ≤ 32768) where
-      pub end-cut : length session - at < 4 + size → at ≡ endFrom session at
-      unfolding endFrom wholeFirst part
-      end-cut c = rw (behind-at, le-leb 4 (length session - at) h, ← e, le-leb size 32768 o, lt-leb (4 + size) (length session - at) c) refl
-
-      pub end-whole : 4 + size ≤ length session - at → at + (4 + size) ≡ endFrom session at
-      unfolding endFrom wholeFirst part
-      end-whole c = rw (behind-at, le-leb 4 (length session - at) h, ← e, le-leb size 32768 o, le-leb (4 + size) (length session - at) c) refl
+    pub end-whole : 4 + size ≤ length session - at → at + (4 + size) ≡ endFrom session at
+    unfolding endFrom wholeFirst part
+    end-whole c = rw (behind-at, le-leb 4 (length session - at) h, ← e, le-leb (4 + size) (length session - at) c) refl
 
 -- a whole request stands there where it ends elsewhere
 module _ (session : List ℕ) (at end : ℕ) (e : end ≡ endFrom session at) (h : (end ≡ at → ⊥)) where
@@ -80,41 +73,37 @@ line-lent lines count room h k =
 -- ---- a request
 
 -- what is known where the call's number is 0
-module _ (level : Level) (ad : Adapter) (medium buffer number call : ℕ) (n : number ≡ stateNumber (stateOf level ad) medium) (e : call ≡ bufferNumber number buffer) (z : call ≡ 0) where
-  called-here : call ≡ callNumber (stateOf level ad) medium buffer
-  called-here = called (stateOf level ad) medium buffer number call n e
+module _ (s : State) (medium buffer number call : ℕ) (n : number ≡ stateNumber s medium) (e : call ≡ bufferNumber number buffer) (z : call ≡ 0) where
+  called-here : call ≡ callNumber s medium buffer
+  called-here = called s medium buffer number call n e
 
-  pub reply-phys : ad .«phy_count» ≤ 32
-  reply-phys = heard-phys (stateOf level ad) medium buffer call called-here z
+  pub reply-state : stateHolds s ≡ true
+  reply-state = heard-state s medium buffer call called-here z
 
-  pub reply-rows : ad .«row_count» ≤ 64
-  reply-rows = heard-rows (stateOf level ad) medium buffer call called-here z
-
-  pub reply-medium : medium ≡ mediumSize ad
-  reply-medium = heard-medium (stateOf level ad) medium buffer call called-here z
+  pub reply-medium : medium ≡ mediumSize (s .adapter)
+  reply-medium = heard-medium s medium buffer call called-here z
 
   pub reply-buffer : 28 ≤ buffer
-  reply-buffer = heard-buffer (stateOf level ad) medium buffer call called-here z
+  reply-buffer = heard-buffer s medium buffer call called-here z
 
-module _ (level : Level) (ad : Adapter) (medium buffer : List ℕ) (number call : ℕ) (n : number ≡ stateNumber (stateOf level ad) (length medium)) (e : call ≡ bufferNumber number (length buffer)) where
+module _ (s : State) (medium buffer : List ℕ) (number call : ℕ) (n : number ≡ stateNumber s (length medium)) (e : call ≡ bufferNumber number (length buffer)) where
   -- it is answered
-  pub handled-replied : (l : Left) → call ≡ 0 → l ≡ afterRequest (answeredAt (stateOf level ad) medium buffer) → l ≡ afterRequest (handled (stateOf level ad) medium buffer)
+  pub handled-replied : (l : Left) → call ≡ 0 → l ≡ afterRequest (answeredAt s medium buffer) → l ≡ afterRequest (handled s medium buffer)
   unfolding handled
-  handled-replied l z p = rw (← called (stateOf level ad) (length medium) (length buffer) number call n e, z) p
+  handled-replied l z p = rw (← called s (length medium) (length buffer) number call n e, z) p
 
   -- or the call gives a number, and nothing is written but that
-  pub handled-refused : (c : Change) (code : ℕ) (line : List ℕ) → (call ≡ 0 → ⊥) → c ≡ keeps code → line ≡ bytes 4 call ++ bytes 4 4294967295
-      → left (stateOf level (applied ad c)) medium buffer line ≡ afterRequest (handled (stateOf level ad) medium buffer)
-  unfolding handled codeOf keeps applied
-  handled-refused c code line h k p =
-      let q : handled (stateOf level ad) medium buffer ≡ untouched call (stateOf level ad) medium buffer = rw (← called (stateOf level ad) (length medium) (length buffer) number call n e, ne-eqb call 0 h) refl in
-      rw (q, k, p, ne-eqb call 0 h) refl
+  pub handled-refused : (line : List ℕ) → (call ≡ 0 → ⊥) → line ≡ bytes 4 call ++ bytes 4 4294967295 → left s medium buffer line ≡ afterRequest (handled s medium buffer)
+  unfolding handled codeOf
+  handled-refused line h p =
+      let q : handled s medium buffer ≡ untouched call s medium buffer = rw (← called s (length medium) (length buffer) number call n e, ne-eqb call 0 h) refl in
+      rw (q, p, ne-eqb call 0 h) refl
 
 -- what an answered request and its line leave
-pub replied-left : (level : Level) (ad : Adapter) (c : Change) (o : Outcome) (code : ℕ) (medium buffer line : List ℕ) → outcome (replies level ad c) medium buffer ≡ o
-    → code ≡ number (part buffer 20 4) → line ≡ bytes 4 0 ++ bytes 4 code → left (stateOf level (applied ad c)) medium buffer line ≡ afterRequest o
+pub replied-left : (s : State) (o : Outcome) (code : ℕ) (medium buffer line : List ℕ) → outcome 0 s medium buffer ≡ o → code ≡ number (part buffer 20 4)
+    → line ≡ bytes 4 0 ++ bytes 4 code → left s medium buffer line ≡ afterRequest o
 unfolding codeOf
-replied-left level ad c o code medium buffer line e p q = rw (q, p) (ap (λ (x : Outcome). afterRequest x) e)
+replied-left s o code medium buffer line e p q = rw (q, p) (ap (λ (x : Outcome). afterRequest x) e)
 
 -- the same behind its length
 pub sized-left : (s s′ : State) (medium medium′ request buffer line : List ℕ)
@@ -188,25 +177,41 @@ unfolding afterSized part
 sized-first s medium session =
     rw (take-take 4 (4 + sizeOf session) session (omega arith), drop-take 4 (4 + sizeOf session) session, add-sub-cancel-left) refl
 
--- what goes on holding of the state
-module _ (level : Level) (ad bd : Adapter) (c : Change) (medium medium′ request request′ line : List ℕ)
-    (p : left (stateOf level (applied ad c)) medium′ request′ line ≡ afterSized (stateOf level ad) medium request) (z : Sized ad) (e : bd ≡ applied ad c) where
-  abbrev after : Outcome
-  after = handled (stateOf level ad) medium (drop 4 request)
+-- the arrays of a lent state have the lengths of their types
+sized-lent : (t : List ℕ) → length t ≡ stateSize → stateHolds (stateOf t) ≡ true → Sized (stateOf t .adapter)
+unfolding stateOf
+sized-lent t e h =
+    record {
+      phys = length-phys (drop 1 t);
+      entities = λ n l. length-entity (drop 1 t) n (rw (length-drop, e) refl) (omega (arith, state-phys (stateOf t) true (sym h) refl));
+    }
 
-  state-now : stateOf level (applied ad c) ≡ after .state
-  unfolding afterSized
-  state-now = ap (λ (l : Left). l .state) p
+-- the number of the state and the medium stays
+NumberKept : State → List ℕ → Outcome → Type 0
+NumberKept s medium o = stateNumber (o .state) (length (o .medium)) ≡ stateNumber s (length medium)
 
-  medium-now : medium′ ≡ after .medium
-  unfolding afterSized
-  medium-now = ap (λ (l : Left). l .medium) p
+-- a state that 107 refuses is not touched
+refused-same : (s : State) (medium request : List ℕ) → stateHolds s ≡ false → handled s medium request ≡ untouched badState s medium request
+unfolding handled callNumber bufferNumber stateNumber
+refused-same s medium request h = rw h refl
 
-  pub sized-next : Sized bd
-  sized-next = rw (e, ap (λ (x : State). x .adapter) state-now) (sized-step (stateOf level ad) medium (drop 4 request) z)
+refused-kept : (s : State) (medium request : List ℕ) → stateHolds s ≡ false → NumberKept s medium (handled s medium request)
+unfolding NumberKept
+refused-kept s medium request h = rw (refused-same s medium request h) refl
 
-  pub number-next : (number : ℕ) → number ≡ stateNumber (stateOf level ad) (length medium) → number ≡ stateNumber (stateOf level bd) (length medium′)
-  number-next number n = n ∙ sym (rw (e, state-now, medium-now) (number-step (stateOf level ad) medium (drop 4 request) z))
+number-kept : (t medium request : List ℕ) → length t ≡ stateSize → NumberKept (stateOf t) medium (handled (stateOf t) medium request)
+unfolding NumberKept
+number-kept t medium request e =
+    by-bool (λ (b : Bool). stateHolds (stateOf t) ≡ b → NumberKept (stateOf t) medium (handled (stateOf t) medium request))
+    (λ h. number-step (stateOf t) medium request (sized-lent t e h)) (λ h. refused-kept (stateOf t) medium request h) (stateHolds (stateOf t)) refl
+
+pub number-next : (t t′ medium medium′ request request′ line : List ℕ) (number : ℕ) → left (stateOf t′) medium′ request′ line ≡ afterSized (stateOf t) medium request
+    → length t ≡ stateSize → number ≡ stateNumber (stateOf t) (length medium) → number ≡ stateNumber (stateOf t′) (length medium′)
+unfolding afterSized NumberKept
+number-next t t′ medium medium′ request request′ line number p e n =
+    let s : stateOf t′ ≡ handled (stateOf t) medium (drop 4 request) .state = ap (λ (l : Left). l .state) p in
+    let m : medium′ ≡ handled (stateOf t) medium (drop 4 request) .medium = ap (λ (l : Left). l .medium) p in
+    n ∙ sym (rw (s, m) (number-kept t medium (drop 4 request) e))
 
 -- nothing is done at the start
 pub run-starts : (room : ℕ) (s : State) (medium session lines : List ℕ)
@@ -237,20 +242,20 @@ module _ (r : Ran) (s : State) (medium session lines : List ℕ) (at count room 
 
   -- a request is handled
   module _ (end : ℕ) (e : end ≡ endFrom session at) (h : (end ≡ at → ⊥)) (k : end ≤ length session) (room′ : 8 * room ≤ length lines) (c : count < room)
-      (level : Level) (ad bd : Adapter) (medium′ request line : List ℕ) (p : left (stateOf level ad) medium′ request line ≡ afterSized s medium (take (end - at) (drop at session)))
-      (l : length request ≡ length (take (end - at) (drop at session))) (stored : bd ≡ ad) where
+      (s′ : State) (medium′ request line : List ℕ) (p : left s′ medium′ request line ≡ afterSized s medium (take (end - at) (drop at session)))
+      (l : length request ≡ length (take (end - at) (drop at session))) where
     abbrev session′ : List ℕ
     session′ = take at session ++ (request ++ drop (end - at) (drop at session))
 
     abbrev lines′ : List ℕ
     lines′ = take (8 * count) lines ++ (line ++ drop (8 * count + 8 - 8 * count) (drop (8 * count) lines))
 
-    pub run-goes-on : r ≡ behind (count + 1) (take end session′) (take (8 * (count + 1)) lines′) (ranFrom (room - (count + 1)) (stateOf level bd) medium′ (drop end session′) (drop (8 * (count + 1)) lines′))
+    pub run-goes-on : r ≡ behind (count + 1) (take end session′) (take (8 * (count + 1)) lines′) (ranFrom (room - (count + 1)) s′ medium′ (drop end session′) (drop (8 * (count + 1)) lines′))
     run-goes-on =
         let o : Outcome = handled s medium (firstOf (drop at session)) in
         let x : end ≡ at + (4 + sizeOf (drop at session)) = whole-at session at end e h .1 in
         let n : end - at ≡ 4 + sizeOf (drop at session) = omega arith in
-        let q : left (stateOf level ad) medium′ request line ≡ behindLength (take 4 (drop at session)) (afterRequest o) = rw n at p ∙ sized-first s medium (drop at session) in
+        let q : left s′ medium′ request line ≡ behindLength (take 4 (drop at session)) (afterRequest o) = rw n at p ∙ sized-first s medium (drop at session) in
         let size : length request ≡ end - at = l ∙ length-take-le (end - at) (drop at session) (rw length-drop (omega arith)) in
         let eight : length line ≡ 8 = ap (λ (x : Left). length (x .line)) q ∙ length-line (replyOf o) in
         let front : length (take at session) ≡ at = length-take-le at session (omega arith) in
@@ -266,7 +271,6 @@ module _ (r : Ran) (s : State) (medium session lines : List ℕ) (at count room 
           drop-cut (take (8 * count) lines) line (drop (8 * count + 8 - 8 * count) (drop (8 * count) lines)) (8 * (count + 1)) b,
           n,
           w,
-          stored,
         )
         (g
         ∙ ap (behind count (take at session) (take (8 * count) lines)) (rw m (ran-more (room - (count + 1)) s medium (drop at session) (drop (8 * count) lines) (whole-at session at end e h .0)))
@@ -277,11 +281,7 @@ module _ (r : Ran) (s : State) (medium session lines : List ℕ) (at count room 
 
 -- ---- the whole run
 
-module _ (text file medium : List ℕ) (o : Opened) (e : o ≡ openedOf text file medium) where
-  pub opened-sized : Sized (o .state .adapter)
-  opened-sized = rw e (sized-opened text file medium)
-
-  pub opened-ran : (session lines : List ℕ) (r : Ran) → r ≡ ranFrom (length lines / 8) (stateOf (o .state .level) (o .state .adapter)) medium session lines
-      → r ≡ sessionRun text file medium session lines
-  unfolding sessionRun wholeRun ranFrom
-  opened-ran session lines r p = rw e at p
+pub opened-ran : (text file medium state after : List ℕ) (call : ℕ) → OpenCall text file medium state call after → length state ≡ stateSize
+    → (session lines : List ℕ) (r : Ran) → r ≡ ranFrom (length lines / 8) (stateOf after) medium session lines → r ≡ sessionRun text file medium session lines
+unfolding sessionRun wholeRun ranFrom
+opened-ran text file medium state after call o e session lines r p = rw (ap (λ (x : Opened). x .state) (o .whole e)) at p

@@ -1,5 +1,6 @@
 -- A session and its run, as bytes (document 01, "Starred cases", its last paragraphs, and "Two runs and the last writer"): the requests in
--- the program's format, the replies in their places, and a record of call numbers and return codes. Assumes nothing.
+-- the program's format, the replies in their places, and a record of call numbers and return codes. The program's limit of 32,768 bytes for a request is
+-- not the library's, which has each request in memory already. Assumes nothing.
 use mathlib.Core.Bool.{Bool, cond, _&&_}
 use mathlib.Core.List.{List, [], _∷_, _++_}
 use Prim.Native.Nat.{ℕ, zero, suc, _+_, _*_, _/_}
@@ -7,7 +8,7 @@ use lib.Dec.{eqb, leb}
 use lib.ListN.{length, take, drop}
 use Rattle.laws.specs.Splice.{part}
 use Rattle.wire.specs.Number.{number, bytes}
-use Rattle.state.specs.declared.State.{State}
+use Rattle.state.specs.State.{State}
 use Rattle.dispatch.specs.Request.{Outcome, handled}
 use Rattle.claims.specs.Run.{Reply, Entry, End, replyOf, run, wholeRun}
 
@@ -17,9 +18,9 @@ use Rattle.claims.specs.Run.{Reply, Entry, End, replyOf, run, wholeRun}
 abbrev pub sizeOf : List ℕ → ℕ
 sizeOf session = number (part session 0 4)
 
--- "up to 32,768 .. then its bytes; a short or oversized last one .. ends it"
+-- "then its bytes; a short .. last one .. ends it"
 unfoldable pub wholeFirst : List ℕ → Bool
-wholeFirst session = leb 4 (length session) && leb (sizeOf session) 32768 && leb (4 + sizeOf session) (length session)
+wholeFirst session = leb 4 (length session) && leb (4 + sizeOf session) (length session)
 
 -- the bytes of the first request, and what stands behind them
 abbrev pub firstOf : List ℕ → List ℕ

@@ -1,24 +1,32 @@
-// The simulator for programs in other languages: an opening, and a whole run over bytes that the caller lends. `ascheknopf.h` declares
-// both for C.
+// The simulator for programs in other languages: its two calls, and a whole run, over bytes that the caller lends. `ascheknopf.h` declares
+// them for C.
 mod session;
 
 use session::run;
 ghost use mathlib.Core.Path.{_≡_};
-ghost use Rattle.state.specs.Open.{openedOf};
+ghost use Rattle.state.specs.Open.{OpenCall};
+ghost use Rattle.dispatch.specs.Request.{RequestCall};
 ghost use Rattle.exports.specs.Session.{ran, sessionRun};
 
-// The number of an opening: 0 if it is accepted.
+// Opens an adapter. Leaves its state and gives 0, or leaves the zero state and gives the number of what is wrong.
 #[no_mangle]
-pub extern "C" fn ascheknopf_open(text: &[u8], file: &[u8], medium: &[u8]) -> u32
-    ensures { λ r. ⌜ r ≡ openedOf (now (text .entry)) (now (file .entry)) (now (medium .entry)) .call ⌝ }
+pub extern "C" fn ascheknopf_open(text: &[u8], file: &[u8], medium: &[u8], state: &mut [u8]) -> u32
+    ensures { λ r. ⌜ OpenCall (now (text .entry)) (now (file .entry)) (now (medium .entry)) (now (state .entry)) r (now (state .exit)) ⌝ }
 {
-    let opened = dispatch::open(text, file, medium);
-    opened.call
+    dispatch::open(text, file, medium, state)
 }
 
-// Opens the adapter and handles the requests of a session in order, until one is cut short or over 32,768 bytes, or the record is full: the
-// replies stand in the requests' places, and the record has 8 bytes for each, the call's number and the return code (FFFFFFFFh for none).
-// Where the opening refuses, the zero state goes on. Gives the number of requests handled.
+// Handles one request, in place.
+#[no_mangle]
+pub extern "C" fn ascheknopf_request(state: &mut [u8], medium: &mut [u8], buffer: &mut [u8]) -> u32
+    ensures { λ call. ⌜ RequestCall (now (state .entry)) (now (medium .entry)) (now (buffer .entry)) call (now (state .exit)) (now (medium .exit)) (now (buffer .exit)) ⌝ }
+{
+    dispatch::request(state, medium, buffer)
+}
+
+// Opens the adapter and handles the requests of a session in order, until one is cut short or the record is full: the replies stand in the
+// requests' places, and the record has 8 bytes for each, the call's number and the return code (FFFFFFFFh for none). A request may be of any
+// length. Where the opening refuses, the zero state goes on. Gives the number of requests handled.
 #[no_mangle]
 pub extern "C" fn ascheknopf_run(
     text: &[u8],
@@ -29,7 +37,7 @@ pub extern "C" fn ascheknopf_run(
 ) -> usize
     ensures { λ r. ⌜ ran r (now (medium .exit)) (now (session .exit)) (now (lines .exit)) ≡ sessionRun (now (text .entry)) (now (file .entry)) (now (medium .entry)) (now (session .entry)) (now (lines .entry)) ⌝ }
 {
-    let opened = dispatch::open(text, file, medium);
-    let state = opened.state;
-    run(state.level, state.adapter, medium, session, lines)
+    let mut state = [0u8; dispatch::SIZE];
+    dispatch::open(text, file, medium, &mut state);
+    run(&mut state, medium, session, lines)
 }

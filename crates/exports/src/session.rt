@@ -1,21 +1,14 @@
 // A session in the program's format: each request a 4-byte length, then its bytes.
-use adapter::Adapter;
-use change::Change;
-use dispatch::State;
-use level::Level;
 ghost use mathlib.Core.Path.{_≡_};
+ghost use mathlib.Core.Bool.{true};
 ghost use mathlib.Core.List.{_++_};
-ghost use Prim.Native.Nat.{_/_, _<_, _≤_};
+ghost use Prim.Native.Nat.{_/_, _≤_};
 ghost use lib.ListN.{length};
 ghost use Rattle.wire.specs.Number.{bytes};
 ghost use Rattle.adapter.specs.Adapter.{mediumSize};
-ghost use Rattle.change.specs.Changed.{applied};
-ghost use Rattle.dispatch.specs.Request.{stateOf, stateNumber, answeredAt, handled};
-ghost use Rattle.claims.specs.Held.{Sized};
+ghost use Rattle.state.specs.State.{stateSize, stateOf, stateHolds};
+ghost use Rattle.dispatch.specs.Request.{stateNumber, answeredAt, handled};
 ghost use Rattle.exports.specs.Session.{endFrom, left, afterRequest, afterSized, ran, ranFrom};
-
-// The longest request.
-const REQUEST_LIMIT: u32 = 32768;
 
 // What a line of the record has where no return code was written.
 const NO_CODE: u32 = 4294967295;
@@ -31,9 +24,6 @@ fn end_from(session: &[u8], at: usize) -> usize
         return at;
     }
     let size = wire::read32(session, at);
-    if REQUEST_LIMIT < size {
-        return at;
-    }
     if behind < 4 + size as usize {
         return at;
     }
@@ -50,81 +40,60 @@ fn write_line(line: &mut [u8], call: u32, code: u32)
 }
 
 // Handles a request that passed the checks of the call, and writes its line.
-fn reply(
-    level: Level,
-    adapter: Adapter,
-    medium: &mut [u8],
-    buffer: &mut [u8],
-    line: &mut [u8],
-) -> Change
-    requires { ⌜ adapter .«phy_count» ≤ 32 ⌝ }
-    requires { ⌜ adapter .«row_count» ≤ 64 ⌝ }
-    requires { ⌜ length (now medium) ≡ mediumSize adapter ⌝ }
+fn reply(state: &mut [u8], medium: &mut [u8], buffer: &mut [u8], line: &mut [u8])
+    requires { ⌜ length (now state) ≡ stateSize ⌝ }
+    requires { ⌜ stateHolds (stateOf (now state)) ≡ true ⌝ }
+    requires { ⌜ length (now medium) ≡ mediumSize (stateOf (now state) .adapter) ⌝ }
     requires { ⌜ 28 ≤ length (now buffer) ⌝ }
     requires { ⌜ length (now line) ≡ 8 ⌝ }
-    ensures { λ c. ⌜ left (stateOf level (applied adapter c)) (now (medium .exit)) (now (buffer .exit)) (now (line .exit)) ≡ afterRequest (answeredAt (stateOf level adapter) (now (medium .entry)) (now (buffer .entry))) ⌝ }
-    ensures { λ c. ⌜ c .number .0 < 32 ⌝ }
+    ensures { λ _. ⌜ left (stateOf (now (state .exit))) (now (medium .exit)) (now (buffer .exit)) (now (line .exit))
+        ≡ afterRequest (answeredAt (stateOf (now (state .entry))) (now (medium .entry)) (now (buffer .entry))) ⌝ }
 {
-    let c = dispatch::reply(level, adapter, medium, buffer);
-    let code = wire::read32(buffer, 20);
+    let code = dispatch::reply(state, medium, buffer);
     write_line(line, 0, code);
-    c
 }
 
 // Handles a request, and writes its line. `number` is that of the state and the medium.
-fn handle(
-    number: u32,
-    level: Level,
-    adapter: Adapter,
-    medium: &mut [u8],
-    buffer: &mut [u8],
-    line: &mut [u8],
-) -> Change
-    requires { ⌜ number ≡ stateNumber (stateOf level adapter) (length (now medium)) ⌝ }
+fn handle(number: u32, state: &mut [u8], medium: &mut [u8], buffer: &mut [u8], line: &mut [u8])
+    requires { ⌜ length (now state) ≡ stateSize ⌝ }
+    requires { ⌜ number ≡ stateNumber (stateOf (now state)) (length (now medium)) ⌝ }
     requires { ⌜ length (now line) ≡ 8 ⌝ }
-    ensures { λ c. ⌜ left (stateOf level (applied adapter c)) (now (medium .exit)) (now (buffer .exit)) (now (line .exit)) ≡ afterRequest (handled (stateOf level adapter) (now (medium .entry)) (now (buffer .entry))) ⌝ }
-    ensures { λ c. ⌜ c .number .0 < 32 ⌝ }
+    ensures { λ _. ⌜ left (stateOf (now (state .exit))) (now (medium .exit)) (now (buffer .exit)) (now (line .exit))
+        ≡ afterRequest (handled (stateOf (now (state .entry))) (now (medium .entry)) (now (buffer .entry))) ⌝ }
 {
     let call = dispatch::buffer_number(number, buffer.len());
     if call == 0 {
-        return reply(level, adapter, medium, buffer, line);
+        return reply(state, medium, buffer, line);
     }
-    write_line(line, call, NO_CODE);
-    change::unchanged(codes::SUCCESS)
+    write_line(line, call, NO_CODE)
 }
 
 // The same of a request behind its length.
 fn handle_sized(
     number: u32,
-    level: Level,
-    adapter: Adapter,
+    state: &mut [u8],
     medium: &mut [u8],
     request: &mut [u8],
     line: &mut [u8],
-) -> Change
-    requires { ⌜ number ≡ stateNumber (stateOf level adapter) (length (now medium)) ⌝ }
+)
+    requires { ⌜ length (now state) ≡ stateSize ⌝ }
+    requires { ⌜ number ≡ stateNumber (stateOf (now state)) (length (now medium)) ⌝ }
     requires { ⌜ 4 ≤ length (now request) ⌝ }
     requires { ⌜ length (now line) ≡ 8 ⌝ }
-    ensures { λ c. ⌜ left (stateOf level (applied adapter c)) (now (medium .exit)) (now (request .exit)) (now (line .exit)) ≡ afterSized (stateOf level adapter) (now (medium .entry)) (now (request .entry)) ⌝ }
-    ensures { λ c. ⌜ c .number .0 < 32 ⌝ }
+    ensures { λ _. ⌜ left (stateOf (now (state .exit))) (now (medium .exit)) (now (request .exit)) (now (line .exit))
+        ≡ afterSized (stateOf (now (state .entry))) (now (medium .entry)) (now (request .entry)) ⌝ }
 {
-    handle(number, level, adapter, medium, &mut request[4..], line)
+    handle(number, state, medium, &mut request[4..], line)
 }
 
 // Handles the requests of a session in order, until none is whole or the record is full, and gives their number. The rules of the state
-// are tested once, since no request breaks them, and a phy is stored in its place.
-pub fn run(
-    level: Level,
-    first: Adapter,
-    medium: &mut [u8],
-    session: &mut [u8],
-    lines: &mut [u8],
-) -> usize
-    requires { ⌜ Sized first ⌝ }
-    ensures { λ r. ⌜ ran r (now (medium .exit)) (now (session .exit)) (now (lines .exit)) ≡ ranFrom (length (now (lines .entry)) / 8) (stateOf level first) (now (medium .entry)) (now (session .entry)) (now (lines .entry)) ⌝ }
+// are tested once, since no request breaks them.
+pub fn run(state: &mut [u8], medium: &mut [u8], session: &mut [u8], lines: &mut [u8]) -> usize
+    requires { ⌜ length (now state) ≡ stateSize ⌝ }
+    ensures { λ r. ⌜ ran r (now (medium .exit)) (now (session .exit)) (now (lines .exit))
+        ≡ ranFrom (length (now (lines .entry)) / 8) (stateOf (now (state .entry))) (now (medium .entry)) (now (session .entry)) (now (lines .entry)) ⌝ }
 {
-    let mut adapter = first;
-    let number = dispatch::state_number(State { level, adapter }, medium.len());
+    let number = dispatch::state_number(state, medium.len());
     let mut at = 0;
     let mut count = 0;
     let room = lines.len() / 8;
@@ -135,18 +104,14 @@ pub fn run(
         }
         let line = 8 * count;
         count += 1;
-        let c = handle_sized(
+        handle_sized(
             number,
-            level,
-            adapter,
+            state,
             medium,
             &mut session[at..end],
             &mut lines[line..line + 8],
         );
         at = end;
-        if c.stored {
-            adapter = adapter.with_phy(c.number, c.phy);
-        }
     }
     count
 }

@@ -1,11 +1,12 @@
 -- The field rules of one phy (document 01, "Adapter file", "Field rules"), in the document's order. Assumes nothing.
 use mathlib.Core.Path.{_≡_, refl, sym, _∙_, ap}
 use mathlib.Core.Bool.{Bool, true, cond, _&&_, _||_}
-use mathlib.Core.List.{List}
+use mathlib.Core.List.{List, map}
 use Prim.Native.Nat.{ℕ, _<_}
 use native.Mathlib.Omega.{arith}
 use lib.Dec.{eqb, leb, ltb}
 use lib.ListN.{length, getD}
+use borrow.Author.Needs.{length-unmapped}
 use borrow.Author.Tests.{eqb-true}
 use Rattle.laws.specs.All.{allTo}
 use Rattle.laws.specs.Choice.{by-bool, both-left, both-right}
@@ -75,9 +76,9 @@ phyZero phy =
 
 -- ---- what the code finds
 
--- what a look through all of a list tells
-pub zero-all : (s : List ℕ) (r : Bool) → r ≡ allZero (part s 0 (length s)) → r ≡ allZero s
-zero-all s r e = e ∙ ap allZero (part-all s)
+-- what a look through all n bytes of a field tells
+pub zero-all : (s : List ℕ) (n : ℕ) (r : Bool) → length (map (λ (v : ℕ). v) s) ≡ n → r ≡ allZero (part s 0 n) → r ≡ allZero s
+zero-all s n r h e = e ∙ ap allZero (ap (part s 0) (sym (length-unmapped ℕ s n h)) ∙ part-all s)
 
 -- the phy of a block of zeros is all zero
 pub zero-phy : phyZero zeroPhy ≡ true

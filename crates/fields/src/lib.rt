@@ -1,5 +1,5 @@
-// The field rules of one phy (document 01, "Adapter file", "Field rules"), and whether it is all zero. The rule of the negotiated
-// rate rests on the link rule and is not here.
+// The field rules of one phy (document 01, "Adapter file", "Field rules"). The rule of the negotiated rate rests on the link rule and is
+// not here.
 use phy::ATTACHED;
 use phy::CLASS;
 use phy::IDENTIFIER;
@@ -10,7 +10,7 @@ use phy::Phy;
 use phy::PhyIdentifier;
 ghost use mathlib.Core.Path.{_≡_};
 ghost use Rattle.wire.specs.Same.{allZero};
-ghost use Rattle.fields.specs.Rules.{isRate, inRange, identifyHolds, rangeHolds, ratesHold, emptyHolds, deviceHolds, attachedHold, signatureHold, fieldsHold, phyZero};
+ghost use Rattle.fields.specs.Rules.{isRate, inRange, identifyHolds, rangeHolds, ratesHold, emptyHolds, deviceHolds, attachedHold, signatureHold, fieldsHold};
 
 // A rate code: 1.5 or 3.0 Gb/s.
 pub fn is_rate(code: u8) -> bool
@@ -27,12 +27,6 @@ fn in_range(least: u8, minimum: u8, maximum: u8, most: u8) -> bool
         & (least <= minimum)
         & (minimum <= maximum)
         & (maximum <= most)
-}
-
-fn zero_bytes(s: &[u8]) -> bool
-    ensures { λ r. ⌜ r ≡ allZero (now (s .entry)) ⌝ }
-{
-    wire::zero_at(s, 0, s.len())
 }
 
 // The two are programmed rates that the phy's hardware allows.
@@ -61,13 +55,19 @@ fn rates_hold(phy: Phy) -> bool
         & in_range(minimum % 16, minimum / 16, maximum / 16, maximum % 16)
 }
 
+fn signature_zero(phy: Phy) -> bool
+    ensures { λ r. ⌜ r ≡ allZero (phy .signature) ⌝ }
+{
+    let signature = phy.signature;
+    wire::zero_at(&signature, 0, 20)
+}
+
 fn empty_holds(phy: Phy) -> bool
     ensures { λ r. ⌜ r ≡ emptyHolds phy ⌝ }
 {
     let entity = phy.entity;
-    let signature = phy.signature;
     wire::zero_at(&entity, ATTACHED, 28)
-        & zero_bytes(&signature)
+        & signature_zero(phy)
         & (phy.held == 0)
         & (phy.lowest == 0)
         & (phy.highest == 0)
@@ -93,13 +93,6 @@ fn attached_holds(phy: Phy) -> bool
     device_holds(phy)
 }
 
-fn signature_zero(phy: Phy) -> bool
-    ensures { λ r. ⌜ r ≡ allZero (phy .signature) ⌝ }
-{
-    let signature = phy.signature;
-    zero_bytes(&signature)
-}
-
 fn signature_holds(phy: Phy) -> bool
     ensures { λ r. ⌜ r ≡ signatureHold phy ⌝ }
 {
@@ -119,19 +112,4 @@ pub fn fields_hold(phy: Phy, n: PhyIdentifier, p: u8) -> bool
         & (phy.held <= 1)
         & (phy.fixed <= 1)
         & signature_holds(phy)
-}
-
-// Every byte and every counter is 0.
-pub fn is_zero(phy: Phy) -> bool
-    ensures { λ r. ⌜ r ≡ phyZero phy ⌝ }
-{
-    let entity = phy.entity;
-    let k = phy.counters;
-    zero_bytes(&entity)
-        & ((k[0] == 0) & (k[1] == 0) & (k[2] == 0) & (k[3] == 0))
-        & signature_zero(phy)
-        & (phy.held == 0)
-        & (phy.fixed == 0)
-        & (phy.lowest == 0)
-        & (phy.highest == 0)
 }

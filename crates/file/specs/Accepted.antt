@@ -18,8 +18,7 @@ use Rattle.rows.specs.Row.{noRow, zeroRow, zero-by}
 use Rattle.layout.specs.Layout.{phyCount, rowCount, blocks, fileLength}
 use Rattle.layout.specs.Unnamed.{unnamedZero}
 use Rattle.adapter.specs.Adapter.{phyIn, countsHold, fieldsAll, zeroPast}
-use Rattle.file.specs.declared.FileRead.{FileRead}
-use Rattle.file.specs.File.{phyAt, rowAt, adapterOf, fileRead, countsRead, lengthRead, fieldsRead}
+use Rattle.file.specs.File.{FileRead, phyAt, rowAt, adapterOf, fileRead, countsRead, lengthRead, fieldsRead}
 
 -- what is known of a file that passed
 pub record Accepted (file : List ℕ) : Type 0 where

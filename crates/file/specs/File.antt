@@ -11,13 +11,19 @@ use Rattle.codes.specs.Codes.{fileLength as badLength, blockCheck, badField}
 use Rattle.block.specs.Check.{blockAt, sound, soundTo}
 use Rattle.phy.specs.declared.Phy.{Phy}
 use Rattle.phy.specs.Block.{phyOf, zeroPhy}
-use Rattle.rows.specs.declared.Row.{Row}
-use Rattle.rows.specs.Row.{rowOf, zeroRow}
-use Rattle.adapter.specs.declared.Adapter.{Adapter}
-use Rattle.file.specs.declared.FileRead.{FileRead}
+use Rattle.rows.specs.Row.{Row, rowOf, zeroRow}
 use Rattle.layout.specs.Layout.{phyCount, rowCount, phyBlock, rowPlace, blocks, fileLength}
 use Rattle.layout.specs.Unnamed.{unnamedZero}
-use Rattle.adapter.specs.Adapter.{zeroAdapter, countsHold, fieldsAll}
+use Rattle.adapter.specs.Adapter.{Adapter, zeroAdapter, countsHold, fieldsAll}
+
+-- what a file holds, where call is 0; else the file's number and the zero adapter
+pub record FileRead : Type 0 where
+  pub call : ℕ
+  pub adapter : Adapter
+
+-- the same, as the code leaves it: its number and the tables
+abbrev pub left : ℕ → Adapter → FileRead
+left call ad = record { call = call; adapter = ad }
 
 -- "Block 1+n, phy n", and row i of a file with p phys
 unfoldable pub phyAt : List ℕ → ℕ → Phy
@@ -37,12 +43,13 @@ adapterOf file p a =
       rows = padded (rowAt file p) a 64 zeroRow;
     }
 
+-- "A refused opening returns the zero state, p = 0"
 abbrev pub refused : ℕ → FileRead
-refused call = record { call = call; adapter = zeroAdapter }
+refused call = left call zeroAdapter
 
 -- the adapter, or 104 where it breaks a rule: "count or field"
 abbrev pub judged : Bool → Adapter → FileRead
-judged ok ad = cond ok (record { call = 0; adapter = ad }) (refused badField)
+judged ok ad = cond ok (left 0 ad) (refused badField)
 
 -- "Opening checks, in order: .. file under 512 bytes; block 0's check; p and a; file length; other checks, lowest block
 -- first; fields". Each definition below is what is left to do from one check on, the last checks first.

@@ -1,46 +1,25 @@
--- Laws for the proofs of this crate: parts of a file as its blocks, and arrays filled from one. Assumes nothing.
-use mathlib.Core.Path.{_≡_, refl, _∙_, ap}
+-- Laws for the proofs of this crate. Assumes nothing.
+use mathlib.Core.Path.{_≡_, _∙_, ap}
 use mathlib.Core.List.{List}
-use Prim.Native.Nat.{ℕ, _+_, _-_, _<_, _≤_}
-use native.Mathlib.Nat.{add-sub-cancel-left}
+use Prim.Native.Nat.{ℕ, _+_, _<_, _≤_}
 use native.Mathlib.Omega.{arith}
-use lib.ListN.{length, take, drop, set, replicate, length-replicate}
-use borrow.Author.Needs.{needs}
-use Rattle.laws.specs.Fill.{padded, padded-none, padded-more, padded-done}
-use Rattle.laws.specs.Splice.{part, splice}
-use Rattle.layout.specs.Layout.{phyPlace, rowPlace, fileLength}
-use Rattle.block.specs.Check.{blockAt}
-use Rattle.phy.specs.declared.Phy.{Phy}
-use Rattle.phy.specs.Block.{phyOf}
-use Rattle.phy.specs.Field.{copied}
-use Rattle.adapter.specs.declared.Adapter.{Adapter}
-use Rattle.file.specs.File.{phyAt, adapterOf}
-
--- an array whose elements a callee made
-pub padded-start : {A : Type 0} (f : ℕ → A) (N : ℕ) (z r : A) → r ≡ z → replicate N r ≡ padded f 0 N z
-padded-start f N z r e = ap (replicate N) e ∙ padded-none f N z
+use lib.ListN.{length}
+use Rattle.laws.specs.Clear.{zeros, cleared-all}
+use Rattle.laws.specs.Splice.{splice}
+use Rattle.layout.specs.Layout.{rowPlace, fileLength}
+use Rattle.tables.specs.Tables.{tablesSize, tablesOf}
+use Rattle.tables.specs.Zero.{zero-tables}
+use Rattle.file.specs.File.{adapterOf, left, refused}
 
 -- row i of `a` rows stands within the file
 pub row-within : (l : List ℕ) (p a i : ℕ) → i < a → length l ≡ fileLength p a → rowPlace p i + 20 ≤ length l
 row-within l p a i h e = omega arith
 
--- a turn of the loop that fills an array
-pub padded-next : {A : Type 0} (f : ℕ → A) (l : List A) (i n N : ℕ) (z v : A) → i < n → n ≤ N → l ≡ padded f i N z → v ≡ f i
-    → set l i v ≡ padded f (i + 1) N z
-padded-next f l i n N z v h k e q = rw e (padded-more f i N z v (omega arith) q)
-
-pub ruleset fill-loop = (padded-start, padded-next, padded-done, row-within, needs)
-
--- a block that was lent to the reading of a phy
-pub phy-lent : (file : List ℕ) (from n : ℕ) (r : Phy) → from ≡ phyPlace n → r ≡ phyOf (take (from + 512 - from) (drop from file)) → r ≡ phyAt file n
-unfolding phyAt blockAt part
-phy-lent file from n r e q = q ∙ rw (add-sub-cancel-left, e)
-
--- the driver info, copied over zeros
-pub info-copied : (file r : List ℕ) → 512 ≤ length file → r ≡ splice (replicate 174 0) 0 (part file 4 174) → r ≡ part file 4 174
-info-copied file r h q = copied r (replicate 174 0) file 4 174 (length file) (length-replicate {A = ℕ} 174 0) refl (omega arith) q
-
 -- the phy count of what was read
-pub count-read : (file : List ℕ) (p a : ℕ) (ad : Adapter) → p ≤ 32 → ad ≡ adapterOf file p a → ad .«phy_count» ≤ 32
+pub count-read : (file t : List ℕ) (p a : ℕ) → p ≤ 32 → tablesOf t ≡ adapterOf file p a → tablesOf t .«phy_count» ≤ 32
 unfolding adapterOf
-count-read file p a ad h e = rw e h
+count-read file t p a h e = rw e h
+
+-- tables that were cleared
+pub refused-left : (t s : List ℕ) (call : ℕ) → length t ≡ tablesSize → s ≡ splice t 0 (zeros tablesSize) → left call (tablesOf s) ≡ refused call
+refused-left t s call e q = ap (left call) (ap tablesOf (cleared-all t s tablesSize e q) ∙ zero-tables)

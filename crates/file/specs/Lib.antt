@@ -1,3 +1,4 @@
 pub mod File
+pub mod Parse
 pub mod Laws
 pub mod Accepted

@@ -1,12 +1,8 @@
-// The opening's file part (document 01, "Adapter file"): what a file holds, and its checks in order up to the fields.
+// The opening's file part (document 01, "Adapter file"): what a file holds, copied into the tables that the caller lends, and its checks
+// in order up to the fields.
 mod parse;
+mod phys;
 mod read;
+mod rows_of;
 
-use adapter::Adapter;
 pub use read::read_file;
-
-// What a file holds, where call is 0; else the file's number and the zero adapter.
-pub struct FileRead {
-    pub call: u32,
-    pub adapter: Adapter,
-}

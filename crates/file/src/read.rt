@@ -1,46 +1,54 @@
-// The opening's file part, its checks in document 01's order up to the fields.
-use crate::FileRead;
+// The opening's file part, its checks in document 01's order up to the fields. A refused opening leaves the tables zero.
 use crate::parse::parse;
-use adapter::Adapter;
 ghost use mathlib.Core.Path.{_≡_};
 ghost use mathlib.Core.Bool.{_&&_};
 ghost use Prim.Native.Nat.{_≤_};
 ghost use lib.ListN.{length};
 ghost use Rattle.block.specs.Check.{soundTo};
 ghost use Rattle.layout.specs.Layout.{blocks, fileLength};
-ghost use Rattle.adapter.specs.Adapter.{fieldsAll};
 ghost use Rattle.layout.specs.Unnamed.{unnamedZero};
-ghost use Rattle.file.specs.File.{adapterOf, refused, judged, fieldsRead, lengthRead, countsRead, fileRead};
+ghost use Rattle.adapter.specs.Adapter.{fieldsAll};
+ghost use Rattle.tables.specs.Tables.{tablesSize, tablesOf};
+ghost use Rattle.file.specs.File.{adapterOf, left, refused, judged, fieldsRead, lengthRead, countsRead, fileRead};
 
-fn refuse(call: u32) -> FileRead
-    ensures { λ r. ⌜ r ≡ refused call ⌝ }
+fn refuse(tables: &mut [u8], call: u32) -> u32
+    requires { ⌜ length (now tables) ≡ tablesSize ⌝ }
+    ensures { λ r. ⌜ left r (tablesOf (now (tables .exit))) ≡ refused call ⌝ }
 {
-    FileRead {
-        call,
-        adapter: adapter::zero_adapter(),
-    }
+    wire::clear(tables, 0, tables::SIZE);
+    call
 }
 
-// The adapter, or the number of a field where it breaks a rule.
-fn judge(ok: bool, adapter: Adapter) -> FileRead
-    ensures { λ r. ⌜ r ≡ judged ok adapter ⌝ }
+// The tables, or the number of a field where they break a rule.
+fn judge(tables: &mut [u8], ok: bool) -> u32
+    requires { ⌜ length (now tables) ≡ tablesSize ⌝ }
+    ensures { λ r. ⌜ left r (tablesOf (now (tables .exit))) ≡ judged ok (tablesOf (now (tables .entry))) ⌝ }
 {
     if ok {
-        return FileRead { call: 0, adapter };
+        return 0;
     }
-    refuse(codes::BAD_FIELD)
+    refuse(tables, codes::BAD_FIELD)
+}
+
+// The unnamed bytes of a file, and the fields of the tables that it gave.
+fn fields_right(tables: &[u8], file: &[u8], p: usize, a: usize) -> bool
+    requires { ⌜ (p ≤ 32) × (a ≤ 64) × (length (now file) ≡ fileLength p a) ⌝ }
+    requires { ⌜ length (now tables) ≡ tablesSize ⌝ }
+    requires { ⌜ tablesOf (now tables) .«phy_count» ≤ 32 ⌝ }
+    ensures { λ r. ⌜ r ≡ unnamedZero (now (file .entry)) p a && fieldsAll (tablesOf (now (tables .entry))) ⌝ }
+{
+    layout::unnamed_zero(file, p, a) & rules::fields_hold(tables)
 }
 
 // A sound file, of the length that its counts give.
-fn read_fields(file: &[u8], p: u8, a: u8) -> FileRead
+fn read_fields(tables: &mut [u8], file: &[u8], p: u8, a: u8) -> u32
     requires { ⌜ (p ≤ 32) × (a ≤ 64) × (length (now file) ≡ fileLength p a) ⌝ }
-    ensures { λ r. ⌜ r ≡ judged (unnamedZero (now (file .entry)) p a && fieldsAll (adapterOf (now (file .entry)) p a)) (adapterOf (now (file .entry)) p a) ⌝ }
+    requires { ⌜ length (now tables) ≡ tablesSize ⌝ }
+    ensures { λ r. ⌜ left r (tablesOf (now (tables .exit))) ≡ judged (unnamedZero (now (file .entry)) p a && fieldsAll (adapterOf (now (file .entry)) p a)) (adapterOf (now (file .entry)) p a) ⌝ }
 {
-    let adapter = parse(file, p, a);
-    judge(
-        layout::unnamed_zero(file, p as usize, a as usize) & adapter::fields_hold(adapter),
-        adapter,
-    )
+    parse(tables, file, p, a);
+    let ok = fields_right(tables, file, p as usize, a as usize);
+    judge(tables, ok)
 }
 
 // Every block has its check.
@@ -52,14 +60,15 @@ fn blocks_sound(file: &[u8], p: usize, a: usize) -> bool
 }
 
 // A file of the length that its counts give.
-fn read_blocks(file: &[u8], p: u8, a: u8) -> FileRead
+fn read_blocks(tables: &mut [u8], file: &[u8], p: u8, a: u8) -> u32
     requires { ⌜ (p ≤ 32) × (a ≤ 64) × (length (now file) ≡ fileLength p a) ⌝ }
-    ensures { λ r. ⌜ r ≡ fieldsRead (now (file .entry)) p a ⌝ }
+    requires { ⌜ length (now tables) ≡ tablesSize ⌝ }
+    ensures { λ r. ⌜ left r (tablesOf (now (tables .exit))) ≡ fieldsRead (now (file .entry)) p a ⌝ }
 {
     if blocks_sound(file, p as usize, a as usize) {
-        return read_fields(file, p, a);
+        return read_fields(tables, file, p, a);
     }
-    refuse(codes::BLOCK_CHECK)
+    refuse(tables, codes::BLOCK_CHECK)
 }
 
 fn length_for(p: usize, a: usize) -> usize
@@ -70,35 +79,38 @@ fn length_for(p: usize, a: usize) -> usize
 }
 
 // A file with counts in range.
-fn read_length(file: &[u8], p: u8, a: u8) -> FileRead
+fn read_length(tables: &mut [u8], file: &[u8], p: u8, a: u8) -> u32
     requires { ⌜ (p ≤ 32) × (a ≤ 64) ⌝ }
-    ensures { λ r. ⌜ r ≡ lengthRead (now (file .entry)) p a ⌝ }
+    requires { ⌜ length (now tables) ≡ tablesSize ⌝ }
+    ensures { λ r. ⌜ left r (tablesOf (now (tables .exit))) ≡ lengthRead (now (file .entry)) p a ⌝ }
 {
     if length_for(p as usize, a as usize) == file.len() {
-        return read_blocks(file, p, a);
+        return read_blocks(tables, file, p, a);
     }
-    refuse(codes::FILE_LENGTH)
+    refuse(tables, codes::FILE_LENGTH)
 }
 
 // A file whose block 0 is sound.
-fn read_counts(file: &[u8], p: u8, a: u8) -> FileRead
-    ensures { λ r. ⌜ r ≡ countsRead (now (file .entry)) p a ⌝ }
+fn read_counts(tables: &mut [u8], file: &[u8], p: u8, a: u8) -> u32
+    requires { ⌜ length (now tables) ≡ tablesSize ⌝ }
+    ensures { λ r. ⌜ left r (tablesOf (now (tables .exit))) ≡ countsRead (now (file .entry)) p a ⌝ }
 {
     if adapter::counts_hold(p, a) {
-        return read_length(file, p, a);
+        return read_length(tables, file, p, a);
     }
-    refuse(codes::BAD_FIELD)
+    refuse(tables, codes::BAD_FIELD)
 }
 
-// What a file holds, or the number of what is wrong with it.
-pub fn read_file(file: &[u8]) -> FileRead
-    ensures { λ r. ⌜ r ≡ fileRead (now (file .entry)) ⌝ }
+// What a file holds, left in the tables, and 0; or the number of what is wrong with it.
+pub fn read_file(tables: &mut [u8], file: &[u8]) -> u32
+    requires { ⌜ length (now tables) ≡ tablesSize ⌝ }
+    ensures { λ r. ⌜ left r (tablesOf (now (tables .exit))) ≡ fileRead (now (file .entry)) ⌝ }
 {
     if file.len() < 512 {
-        return refuse(codes::FILE_LENGTH);
+        return refuse(tables, codes::FILE_LENGTH);
     }
     if block::sound_at(file, 0) {
-        return read_counts(file, file[0], file[1]);
+        return read_counts(tables, file, file[0], file[1]);
     }
-    refuse(codes::BLOCK_CHECK)
+    refuse(tables, codes::BLOCK_CHECK)
 }

@@ -6,6 +6,7 @@ use libc::STDOUT_FILENO;
 ghost use mathlib.Core.Path.{_≡_};
 ghost use Prim.Native.Nat.{_<_, _≤_, _+_, _*_};
 ghost use lib.ListN.{length};
+ghost use Rattle.tables.specs.Tables.{tablesSize};
 
 // A line's numbers.
 struct Numbers {
@@ -145,32 +146,38 @@ fn seal(file: &mut [u8]) {
 }
 
 // The number that the file part and the rows give.
-fn judged(call: u32, a: adapter::Adapter) -> u32
-    requires { ⌜ a .«row_count» ≤ 64 ⌝ }
+fn judged(call: u32, tables: &[u8], a: u8) -> u32
+    requires { ⌜ (a ≤ 64) × (length (now tables) ≡ tablesSize) ⌝ }
 {
-    let rows = a.rows;
     if call != 0 {
         return call;
     }
-    if rows::rows_hold(rows, a.row_count as usize) {
+    if rows::rows_hold(&tables[tables::ROWS..tables::SIZE], a as usize) {
         return 0;
     }
     105
 }
 
-// What a file gives, with the counts that were read.
-fn show(file: &[u8]) {
-    let r = file::read_file(file);
-    let a = r.adapter;
-    if 64 < a.row_count {
+fn show_read(call: u32, tables: &[u8])
+    requires { ⌜ length (now tables) ≡ tablesSize ⌝ }
+{
+    let a = tables::row_count(tables);
+    if 64 < a {
         return;
     }
-    say_number(judged(r.call, a) as u64);
+    say_number(judged(call, tables, a) as u64);
     say(b" ");
-    say_number(a.phy_count as u64);
+    say_number(tables::phy_count(tables) as u64);
     say(b" ");
-    say_number(a.row_count as u64);
+    say_number(a as u64);
     say(b"\n");
+}
+
+// What a file gives, with the counts that were read.
+fn show(file: &[u8]) {
+    let mut tables = [0u8; 4784];
+    let call = file::read_file(&mut tables, file);
+    show_read(call, &tables);
 }
 
 // The size of a file with p phys and a rows.

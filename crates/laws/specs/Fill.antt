@@ -10,15 +10,21 @@
 --
 -- Its result is `padded f n N z`, its invariant `(i ≤ n) × (l ≡ padded f i N z)`. Assumes nothing.
 use mathlib.Core.Path.{_≡_, refl, sym, _∙_, ap}
+use mathlib.Core.Logic.{_≢_}
+use mathlib.Core.Bool.{Bool}
 use mathlib.Core.List.{List, [], _∷_, _++_, append-assoc}
 use Prim.Native.Nat.{ℕ, zero, suc, _+_, _-_, _<_, _≤_}
 use native.Mathlib.Numerals.{add-one}
 use native.Mathlib.Nat.{le-antisymm, sub-zero, not-suc-le-zero}
 use native.Mathlib.Omega.{arith}
-use lib.ListN.{length, getD, set, replicate, length-append, length-replicate, getD-replicate, List·getD-append}
-use lib.Seq.{set-at, getD-at, getD-append-add}
+use native.Mathlib.Decide.{ℕ-discrete}
+use lib.Dec.{ltb}
+use lib.ListN.{length, getD, set, replicate, length-append, length-set, length-replicate, getD-replicate, List·getD-append}
+use lib.Seq.{ext-getD, set-at, getD-at, getD-append-add, getD-set-same, getD-set-other}
 use borrow.Author.Needs.{needs}
 use borrow.Author.Count.{below-more}
+use borrow.Author.Tests.{ltb-true, ltb-false}
+use Rattle.laws.specs.Choice.{by-bool}
 
 -- while n is below N, one element more stands behind the first n
 pad-more : (N n : ℕ) → n < N → N - n ≡ suc (N - suc n)
@@ -85,5 +91,28 @@ module _ {A : Type 0} where
   unfolding listTo
   listTo-same f g zero h = refl
   listTo-same f g (suc n) h = rw (listTo-same f g n (λ i l. h i (search needs)), h n (search needs))
+
+  -- a filling in which one element is another
+  pub listTo-set : (f g : ℕ → A) (N n : ℕ) (v d : A) → n < N → g n ≡ v → ((i : ℕ) → i < N → i ≢ n → g i ≡ f i) → listTo g N ≡ set (listTo f N) n v
+  listTo-set f g N n v d h e q =
+      ext-getD d (listTo g N) (set (listTo f N) n v) (length-listTo g N ∙ sym (length-set (listTo f N) n v ∙ length-listTo f N))
+      (λ i l. at i (rw (length-listTo g N) at l) (ℕ-discrete i n))
+    where
+      at : (i : ℕ) → i < N → Dec (i ≡ n) → getD (listTo g N) i d ≡ getD (set (listTo f N) n v) i d
+      at i l (yes p) = getD-listTo g N i d l ∙ rw (p, getD-set-same (listTo f N) n v d (rw (length-listTo f N) h)) e
+      at i l (no p) = getD-listTo g N i d l ∙ q i l p ∙ sym (getD-set-other (listTo f N) n i v d p ∙ getD-listTo f N i d l)
+
+  -- n places filled by g and the others z, from what stands at each
+  pub filled-as : (f g : ℕ → A) (n N : ℕ) (z d : A) → n ≤ N → ((i : ℕ) → i < n → f i ≡ g i) → ((i : ℕ) → n ≤ i → i < N → f i ≡ z)
+      → listTo f N ≡ padded g n N z
+  filled-as f g n N z d k below past =
+      ext-getD d (listTo f N) (padded g n N z) (length-listTo f N ∙ sym (length-padded g n N z k))
+      (λ i j. let b : i < N = rw (length-listTo f N) at j in
+      getD-listTo f N i d b
+      ∙ by-bool (λ (t : Bool). ltb i n ≡ t → f i ≡ getD (padded g n N z) i d)
+      (λ q. let h : i < n = ltb-true i n q in
+      below i h ∙ sym (getD-padded g n N i z d h))
+      (λ q. let h : n ≤ i = ltb-false i n q in
+      past i h b ∙ sym (getD-past g n N i z d h b)) (ltb i n) refl)
 
 pub ruleset fill-loop = (padded-none, padded-more, padded-done, needs)

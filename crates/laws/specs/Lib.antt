@@ -2,9 +2,11 @@ pub mod Choice
 pub mod All
 pub mod First
 pub mod Sum
+pub mod Largest
 pub mod Fill
 pub mod Splice
-pub mod Flat
 pub mod Copy
+pub mod Clear
+pub mod Flat
 pub mod Cases
 pub mod Ascii

@@ -5,8 +5,8 @@ use mathlib.Core.List.{List, [], _∷_, _++_, append-assoc, append-nil}
 use Prim.Native.Nat.{ℕ, zero, suc, _+_, _-_, _<_, _≤_}
 use native.Mathlib.Nat.{add-zero, sub-zero, zero-sub, suc-sub-suc, add-sub-cancel-left}
 use native.Mathlib.Omega.{arith}
-use lib.ListN.{length, getD, take, drop, drop-of-length-le, length-append, length-drop, take-append-drop, List·getD-append}
-use lib.Seq.{length-take-le, take-at, take-take, take-length, take-append-le, take-nil, drop-drop, drop-at, drop-append-add, getD-take, getD-drop, sets, sets-eq}
+use lib.ListN.{length, getD, take, drop, replicate, drop-of-length-le, length-append, length-drop, length-replicate, getD-replicate, List·getD-append}
+use lib.Seq.{ext-getD, take-add, length-take-le, take-at, take-all, take-take, take-length, take-append-le, take-nil, drop-drop, drop-at, drop-append-le, drop-append-add, getD-take, getD-drop, getD-append-add, sets, sets-eq}
 
 module _ {A : Type 0} where
   -- the n elements from index at on
@@ -130,3 +130,56 @@ module _ {A : Type 0} where
   pub stores : (d : List A) (at : ℕ) (s : List A) → at + length s ≤ length d → sets d at s ≡ splice d at s
   unfolding splice
   stores d at s h = sets-eq s d at h ∙ append-assoc (take at d) s (drop (at + length s) d)
+
+  -- a splice, and one right behind it
+  pub splice-next : (d : List A) (at k : ℕ) (s t : List A) → at + length s ≡ k → k ≤ length d → splice (splice d at s) k t ≡ splice d at (s ++ t)
+  unfolding splice
+  splice-next d at k s t e h =
+      let l : length (take at d ++ s) ≡ k = length-append (take at d) s ∙ rw (length-take-le at d (omega arith)) e in
+      let a : take at d ++ (s ++ drop (at + length s) d) ≡ (take at d ++ s) ++ drop k d =
+      rw (sym e) (sym (append-assoc (take at d) s (drop (at + length s) d))) in
+      let b : k + length t ≡ length (take at d ++ s) + length t = rw l in
+      let c : drop (k + length t) ((take at d ++ s) ++ drop k d) ≡ drop (k + length t) d =
+      ap (λ (n : ℕ). drop n ((take at d ++ s) ++ drop k d)) b ∙ drop-append-add (take at d ++ s) (drop k d) (length t) ∙ drop-drop (length t) k d in
+      let f : at + length (s ++ t) ≡ k + length t = rw (length-append s t) (omega arith) in
+      rw (a, take-at (take at d ++ s) (drop k d) k l, c, f, append-assoc (take at d) s (t ++ drop (k + length t) d), append-assoc s t (drop (k + length t) d))
+
+  -- a part that was lent and given back as x
+  pub lent-filled : (m s x : List A) (at n : ℕ) → length s ≡ n → s ≡ x → take at m ++ (s ++ drop n (drop at m)) ≡ splice m at x
+  lent-filled m s x at n h q = lent-back m at n s h ∙ ap (splice m at) q
+
+  -- ---- parts of lists joined, side by side, and of one element
+
+  -- the first n elements, a part of the first list, and a part of what is joined on
+  pub part-first : (a b : List A) (n : ℕ) → length a ≡ n → part (a ++ b) 0 n ≡ a
+  unfolding part
+  part-first a b n e = take-at a b n e
+
+  pub part-behind : (a b : List A) (k i n : ℕ) → length a ≡ k → part (a ++ b) (k + i) n ≡ part b i n
+  unfolding part
+  part-behind a b k i n e = ap (take n) (rw (← e) (drop-append-add a b i))
+
+  pub get-behind : (a b : List A) (k i : ℕ) (z : A) → length a ≡ k → getD (a ++ b) (k + i) z ≡ getD b i z
+  get-behind a b k i z e = rw (← e) (getD-append-add a b i z)
+
+  pub part-left : (a b : List A) (at n : ℕ) → at + n ≤ length a → part (a ++ b) at n ≡ part a at n
+  unfolding part
+  part-left a b at n h =
+      let l : n ≤ length (drop at a) = simp length-drop (omega arith) in
+      ap (take n) (drop-append-le at a b (omega arith)) ∙ take-append-le n (drop at a) b l
+
+  pub part-replicate : (m k w : ℕ) (z : A) → k + w ≤ m → part (replicate m z) k w ≡ replicate w z
+  part-replicate m k w z h =
+      let e : length (part (replicate m z) k w) ≡ w = length-part (replicate m z) k w (rw (length-replicate m z) h) in
+      ext-getD z (part (replicate m z) k w) (replicate w z) (e ∙ sym (length-replicate w z))
+      (λ i j. let b : i < w = rw e at j in
+      getD-part (replicate m z) k w i z b ∙ getD-replicate m (k + i) z z (omega arith) ∙ sym (getD-replicate w i z z b))
+
+  pub part-last : (a b : List A) (at w : ℕ) → length a ≡ at → length b ≡ w → part (a ++ b) at w ≡ b
+  unfolding part
+  part-last a b at w e k = ap (take w) (drop-at a b at e) ∙ take-all w b (omega arith)
+
+  -- two parts side by side
+  pub part-add : (l : List A) (at a b : ℕ) → part l at (a + b) ≡ part l at a ++ part l (at + a) b
+  unfolding part
+  part-add l at a b = take-add a b (drop at l) ∙ rw drop-drop

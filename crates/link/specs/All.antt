@@ -6,8 +6,7 @@ use Prim.Native.Nat.{ℕ, _<_}
 use lib.ListN.{length}
 use Rattle.laws.specs.All.{allTo, all-at}
 use Rattle.phy.specs.declared.Phy.{Phy}
-use Rattle.adapter.specs.declared.Adapter.{Adapter}
-use Rattle.adapter.specs.Adapter.{phyIn, withPhy}
+use Rattle.adapter.specs.Adapter.{Adapter, phyIn, withPhy}
 use Rattle.adapter.specs.Store.{all-stored, counts-stored}
 use Rattle.link.specs.Rule.{negotiatedHolds}
 

@@ -1,22 +1,29 @@
-// The rule on the negotiated rate, of every phy of an adapter.
+// The rule on the negotiated rate, of every phy of the tables that the caller lends.
 use crate::negotiated_holds;
-use adapter::Adapter;
-use phy::Phy;
+use phy::PhyIdentifier;
 ghost use mathlib.Core.Path.{_≡_};
 ghost use Prim.Native.Nat.{ℕ, _<_, _≤_};
-ghost use lib.ListN.{getD};
+ghost use lib.ListN.{length};
 ghost use Rattle.laws.specs.All.{allTo};
-ghost use Rattle.phy.specs.Block.{noPhy};
+ghost use Rattle.adapter.specs.Adapter.{phyIn};
+ghost use Rattle.tables.specs.Tables.{tablesSize, tablesOf};
 ghost use Rattle.link.specs.Rule.{negotiatedHolds};
 ghost use Rattle.link.specs.All.{negotiatedAll};
 
-fn phys_negotiated(phys: [Phy; 32], p: usize) -> bool
-    requires { ⌜ p ≤ 32 ⌝ }
-    ensures { λ r. ⌜ r ≡ allTo (λ (n : ℕ). negotiatedHolds (getD phys n noPhy)) p ⌝ }
+fn phy_negotiated(tables: &[u8], k: u8) -> bool
+    requires { ⌜ (k < 32) × (length (now tables) ≡ tablesSize) ⌝ }
+    ensures { λ r. ⌜ r ≡ negotiatedHolds (phyIn (tablesOf (now (tables .entry))) k) ⌝ }
+{
+    negotiated_holds(tables::phy_at(tables, PhyIdentifier(k)))
+}
+
+fn phys_negotiated(tables: &[u8], p: u8) -> bool
+    requires { ⌜ (p ≤ 32) × (length (now tables) ≡ tablesSize) ⌝ }
+    ensures { λ r. ⌜ r ≡ allTo (λ (n : ℕ). negotiatedHolds (phyIn (tablesOf (now (tables .entry))) n)) p ⌝ }
 {
     let mut k = 0;
     while k < p {
-        if negotiated_holds(phys[k]) {
+        if phy_negotiated(tables, k) {
             k += 1;
         } else {
             return false;
@@ -26,10 +33,10 @@ fn phys_negotiated(phys: [Phy; 32], p: usize) -> bool
 }
 
 // The negotiated rate of each phy is 1 or what the link rule gives.
-pub fn all_negotiated(adapter: Adapter) -> bool
-    requires { ⌜ adapter .«phy_count» ≤ 32 ⌝ }
-    ensures { λ r. ⌜ r ≡ negotiatedAll adapter ⌝ }
+pub fn all_negotiated(tables: &[u8]) -> bool
+    requires { ⌜ length (now tables) ≡ tablesSize ⌝ }
+    requires { ⌜ tablesOf (now tables) .«phy_count» ≤ 32 ⌝ }
+    ensures { λ r. ⌜ r ≡ negotiatedAll (tablesOf (now (tables .entry))) ⌝ }
 {
-    let phys = adapter.phys;
-    phys_negotiated(phys, adapter.phy_count as usize)
+    phys_negotiated(tables, tables::phy_count(tables))
 }

@@ -1,19 +1,15 @@
 -- What the proofs of this crate cite. Assumes nothing.
-use mathlib.Core.Path.{_≡_}
-use Prim.Native.Nat.{ℕ, _<_}
-use native.Mathlib.Omega.{arith}
-use lib.Dec.{eqb}
-use Rattle.laws.specs.Choice.{either}
+use mathlib.Core.Path.{_≡_, ap₂}
+use mathlib.Core.List.{List}
+use Prim.Native.Nat.{ℕ}
 use Rattle.phy.specs.declared.Phy.{Phy}
 use Rattle.phy.specs.declared.PhyIdentifier.{PhyIdentifier}
-use Rattle.change.specs.declared.Change.{Change}
-use Rattle.change.specs.Changed.{keeps, stores}
-use Rattle.link_errors.specs.LinkErrors.{afterReset}
+use Rattle.adapter.specs.Adapter.{Adapter, phyIn}
+use Rattle.adapter.specs.Changed.{gives, leaves, withBody}
+use Rattle.link_errors.specs.LinkErrors.{reported, afterReset}
 
--- the number of the phy that it stores is below 32
-pub below-reset : (n : PhyIdentifier) (phy : Phy) (byte : ℕ) (c : Change) → n .0 < 32 → c ≡ afterReset n phy byte → c .number .0 < 32
-unfolding afterReset keeps stores
-below-reset n phy byte c h e = rw e (either Below (eqb byte 1) h (omega arith))
-  where
-    Below : Change → Type 0
-    Below c = c .number .0 < 32
+-- the phy that was read, its counters reported, and what the reset left
+pub report-by : (ad bd : Adapter) (code : ℕ) (n : PhyIdentifier) (byte : ℕ) (phy : Phy) (body b : List ℕ) → phy ≡ phyIn ad (n .0)
+    → b ≡ reported body (phy .counters) → gives code bd ≡ afterReset ad n phy byte
+    → leaves code bd b ≡ withBody (afterReset ad n (phyIn ad (n .0)) byte) (reported body (phyIn ad (n .0) .counters))
+report-by ad bd code n byte phy body b e p q = ap₂ withBody (rw e at q) (rw e at p)

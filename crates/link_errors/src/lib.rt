@@ -1,15 +1,15 @@
-// Code 22, get link errors (document 01, "Request"). It works on the body of its request, the buffer after its header, and gives the return
-// code and the phy that it stores, if any.
-use adapter::Adapter;
-use change::Change;
-use change::unchanged;
+// Code 22, get link errors (document 01, "Request"). It works on the body of its request, the buffer after its header, and on the tables, in which
+// it stores the phy that it changes. It gives the return code.
 use phy::Phy;
 use phy::PhyIdentifier;
 ghost use mathlib.Core.Path.{_≡_};
 ghost use Prim.Native.Nat.{_<_, _≤_};
 ghost use lib.ListN.{length};
-ghost use Rattle.adapter.specs.Adapter.{phyIn};
-ghost use Rattle.change.specs.Changed.{left, servedBy};
+ghost use Rattle.phy.specs.Change.{cleared};
+ghost use Rattle.codes.specs.Codes.{success};
+ghost use Rattle.adapter.specs.Adapter.{phyIn, withPhy};
+ghost use Rattle.adapter.specs.Changed.{gives, leaves, withBody};
+ghost use Rattle.tables.specs.Tables.{tablesSize, tablesOf};
 ghost use Rattle.link_errors.specs.LinkErrors.{reported, afterReset, linkErrors};
 
 fn put_counters(counters: [u32; 4], body: &mut [u8])
@@ -22,45 +22,50 @@ fn put_counters(counters: [u32; 4], body: &mut [u8])
     wire::write32(body, 16, counters[3]);
 }
 
-fn after_reset(n: PhyIdentifier, phy: Phy, byte: u8) -> Change
-    ensures { λ r. ⌜ r ≡ afterReset n phy byte ⌝ }
+fn clear(tables: &mut [u8], n: PhyIdentifier, phy: Phy) -> u32
+    requires { ⌜ n .0 < 32 ⌝ }
+    requires { ⌜ length (now tables) ≡ tablesSize ⌝ }
+    ensures { λ code. ⌜ gives code (tablesOf (now (tables .exit))) ≡ gives success (withPhy (tablesOf (now (tables .entry))) (n .0) (cleared phy)) ⌝ }
 {
-    if byte == 1 {
-        return Change {
-            code: codes::SUCCESS,
-            stored: true,
-            number: n,
-            phy: phy.cleared(),
-        };
-    }
-    unchanged(codes::SUCCESS)
+    tables::store_phy(tables, n, phy.cleared());
+    codes::SUCCESS
 }
 
-fn report(adapter: Adapter, n: PhyIdentifier, byte: u8, body: &mut [u8]) -> Change
+fn after_reset(tables: &mut [u8], n: PhyIdentifier, phy: Phy, byte: u8) -> u32
     requires { ⌜ n .0 < 32 ⌝ }
-    requires { ⌜ 20 ≤ length (now body) ⌝ }
-    ensures { λ r. ⌜ r ≡ afterReset n (phyIn adapter (n .0)) byte ⌝ }
-    ensures { λ r. ⌜ r .number .0 < 32 ⌝ }
-    ensures { λ _. ⌜ now (body .exit) ≡ reported (now (body .entry)) (phyIn adapter (n .0) .counters) ⌝ }
+    requires { ⌜ length (now tables) ≡ tablesSize ⌝ }
+    ensures { λ code. ⌜ gives code (tablesOf (now (tables .exit))) ≡ afterReset (tablesOf (now (tables .entry))) n phy byte ⌝ }
 {
-    let phy = adapter.phy(n);
+    if byte == 1 {
+        return clear(tables, n, phy);
+    }
+    codes::SUCCESS
+}
+
+fn report(tables: &mut [u8], n: PhyIdentifier, byte: u8, body: &mut [u8]) -> u32
+    requires { ⌜ n .0 < 32 ⌝ }
+    requires { ⌜ length (now tables) ≡ tablesSize ⌝ }
+    requires { ⌜ 20 ≤ length (now body) ⌝ }
+    ensures { λ code. ⌜ leaves code (tablesOf (now (tables .exit))) (now (body .exit)) ≡ withBody (afterReset (tablesOf (now (tables .entry))) n (phyIn (tablesOf (now (tables .entry))) (n .0)) byte) (reported (now (body .entry)) (phyIn (tablesOf (now (tables .entry))) (n .0) .counters)) ⌝ }
+{
+    let phy = tables::phy_at(tables, n);
     let counters = phy.counters;
     put_counters(counters, body);
-    after_reset(n, phy, byte)
+    after_reset(tables, n, phy, byte)
 }
 
 // Reports a phy's four counters, and clears them where the reset byte is 1.
-pub fn get_link_errors(adapter: Adapter, body: &mut [u8]) -> Change
-    requires { ⌜ adapter .«phy_count» ≤ 32 ⌝ }
+pub fn get_link_errors(tables: &mut [u8], body: &mut [u8]) -> u32
+    requires { ⌜ length (now tables) ≡ tablesSize ⌝ }
+    requires { ⌜ tablesOf (now tables) .«phy_count» ≤ 32 ⌝ }
     requires { ⌜ 20 ≤ length (now body) ⌝ }
-    ensures { λ c. ⌜ left (servedBy adapter c) (now (body .exit)) ≡ linkErrors adapter (now (body .entry)) ⌝ }
-    ensures { λ c. ⌜ c .number .0 < 32 ⌝ }
+    ensures { λ code. ⌜ leaves code (tablesOf (now (tables .exit))) (now (body .exit)) ≡ linkErrors (tablesOf (now (tables .entry))) (now (body .entry)) ⌝ }
 {
     if body[1] <= 1 {
-        if body[0] < adapter.phy_count {
-            return report(adapter, PhyIdentifier(body[0]), body[1], body);
+        if tables::phy_exists(tables, body[0]) {
+            return report(tables, PhyIdentifier(body[0]), body[1], body);
         }
-        return unchanged(codes::PHY_DOES_NOT_EXIST);
+        return codes::PHY_DOES_NOT_EXIST;
     }
-    unchanged(codes::INVALID_PARAMETER)
+    codes::INVALID_PARAMETER
 }

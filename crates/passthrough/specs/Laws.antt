@@ -8,8 +8,7 @@ use lib.ListN.{length, take, drop}
 use Rattle.laws.specs.Splice.{part, length-part, lent-back}
 use Rattle.phy.specs.declared.PhyIdentifier.{PhyIdentifier}
 use Rattle.phy.specs.declared.PortIdentifier.{PortIdentifier}
-use Rattle.adapter.specs.declared.Adapter.{Adapter}
-use Rattle.adapter.specs.Adapter.{mediumSize}
+use Rattle.adapter.specs.Adapter.{Adapter, mediumSize}
 use Rattle.disk.specs.Disk.{dataLength, left, served, Served}
 use Rattle.disk.specs.Laws.{disk-length}
 use Rattle.select.specs.declared.Selection.{Selection}
@@ -29,5 +28,6 @@ pub on-disk-left : (medium body : List ℕ) (n code : ℕ) (d b : List ℕ) → 
 unfolding onDisk part
 on-disk-left medium body n code d b h k e =
     let q : left code d b ≡ served (take 8192 (drop (8192 * n) medium)) body = rw add-sub-cancel-left at e in
-    let l : length d ≡ 8192 = ap (λ (s : Served). length (s .disk)) q ∙ disk-length (take 8192 (drop (8192 * n) medium)) body (length-part medium (8192 * n) 8192 h, k) in
+    let l : length d ≡ 8192 =
+    ap (λ (s : Served). length (s .disk)) q ∙ disk-length (take 8192 (drop (8192 * n) medium)) body (length-part medium (8192 * n) 8192 h, k) in
     rw (add-sub-cancel-left, lent-back medium (8192 * n) 8192 d l) (ap (putBack medium n) q)

@@ -12,8 +12,7 @@ use Rattle.phy.specs.declared.PortIdentifier.{PortIdentifier}
 use Rattle.phy.specs.Entity.{isSata, negotiatedOf, attachedIs}
 use Rattle.fields.specs.Rules.{isRate}
 use Rattle.disk.specs.Disk.{fis, Served, served}
-use Rattle.adapter.specs.declared.Adapter.{Adapter}
-use Rattle.adapter.specs.Adapter.{phyIn}
+use Rattle.adapter.specs.Adapter.{Adapter, phyIn}
 use Rattle.select.specs.declared.Selection.{Selection}
 use Rattle.select.specs.Select.{selectIn}
 
@@ -80,4 +79,5 @@ passedTo ad medium body s = cond (eqb (s .code) success) (sentTo ad medium body 
 -- "25: FIS byte 0 ..; phy and port .. Connected if .. Then the disk"
 unfoldable pub passthrough : Adapter → List ℕ → List ℕ → Passed
 passthrough ad medium body =
-    cond (formHolds (fis body 0) (connectionRate body)) (passedTo ad medium body (selectIn ad (phyAsked body) (portAsked body))) (leaves invalidParameter medium body)
+    cond (formHolds (fis body 0) (connectionRate body)) (passedTo ad medium body (selectIn ad (phyAsked body) (portAsked body)))
+    (leaves invalidParameter medium body)

@@ -1,5 +1,4 @@
 // Code 25, STP passthrough.
-use adapter::Adapter;
 use phy::Phy;
 use phy::PhyIdentifier;
 use phy::PortIdentifier;
@@ -10,8 +9,10 @@ ghost use Prim.Native.Nat.{_+_, _*_, _<_, _≤_};
 ghost use lib.ListN.{length};
 ghost use Rattle.disk.specs.Disk.{dataLength};
 ghost use Rattle.adapter.specs.Adapter.{mediumSize, phyIn};
+ghost use Rattle.tables.specs.Tables.{tablesSize, tablesOf};
 ghost use Rattle.select.specs.Select.{selectIn};
-ghost use Rattle.passthrough.specs.Passthrough.{leaves, phyAsked, portAsked, connectionRate, destinationOf, formHolds, connected, onDisk, sentTo, passedTo, passthrough};
+ghost use Rattle.passthrough.specs.Passthrough.{leaves, phyAsked, portAsked, connectionRate, destinationOf};
+ghost use Rattle.passthrough.specs.Passthrough.{formHolds, connected, onDisk, sentTo, passedTo, passthrough};
 
 // A register host-to-device FIS.
 const COMMAND_FIS: u8 = 0x27;
@@ -33,12 +34,14 @@ fn reaches(phy: Phy, rate: u8, destination: &[u8]) -> bool
         & phy.attached_is(destination)
 }
 
-fn is_connected(adapter: Adapter, n: PhyIdentifier, body: &[u8]) -> bool
+fn is_connected(tables: &[u8], n: PhyIdentifier, body: &[u8]) -> bool
     requires { ⌜ n .0 < 32 ⌝ }
+    requires { ⌜ length (now tables) ≡ tablesSize ⌝ }
     requires { ⌜ 136 ≤ length (now body) ⌝ }
-    ensures { λ r. ⌜ r ≡ connected (phyIn adapter (n .0)) (connectionRate (now (body .entry))) (destinationOf (now (body .entry))) ⌝ }
+    ensures { λ r. ⌜ r ≡ connected (phyIn (tablesOf (now (tables .entry))) (n .0)) (connectionRate (now (body .entry)))
+        (destinationOf (now (body .entry))) ⌝ }
 {
-    reaches(adapter.phy(n), body[2], &body[4..12])
+    reaches(tables::phy_at(tables, n), body[2], &body[4..12])
 }
 
 // The phy's disk is lent to the command as a part of the medium.
@@ -51,50 +54,59 @@ fn on_disk(medium: &mut [u8], n: PhyIdentifier, body: &mut [u8]) -> u32
     disk::command(&mut medium[from..from + 8192], body)
 }
 
-fn connect(adapter: Adapter, medium: &mut [u8], body: &mut [u8], n: PhyIdentifier) -> u32
+fn connect(tables: &[u8], medium: &mut [u8], body: &mut [u8], n: PhyIdentifier) -> u32
     requires { ⌜ n .0 < 32 ⌝ }
+    requires { ⌜ length (now tables) ≡ tablesSize ⌝ }
     requires { ⌜ 8192 * n .0 + 8192 ≤ length (now medium) ⌝ }
     requires { ⌜ 136 + dataLength (now body) ≤ length (now body) ⌝ }
-    ensures { λ code. ⌜ leaves code (now (medium .exit)) (now (body .exit)) ≡ sentTo adapter (now (medium .entry)) (now (body .entry)) (n .0) ⌝ }
+    ensures { λ code. ⌜ leaves code (now (medium .exit)) (now (body .exit))
+        ≡ sentTo (tablesOf (now (tables .entry))) (now (medium .entry)) (now (body .entry)) (n .0) ⌝ }
 {
-    if is_connected(adapter, n, body) {
+    if is_connected(tables, n, body) {
         return on_disk(medium, n, body);
     }
     codes::CONNECTION_FAILED
 }
 
-fn pass_to(adapter: Adapter, medium: &mut [u8], body: &mut [u8], s: Selection) -> u32
-    requires { ⌜ adapter .«phy_count» ≤ 32 ⌝ }
-    requires { ⌜ length (now medium) ≡ mediumSize adapter ⌝ }
+fn pass_to(tables: &[u8], medium: &mut [u8], body: &mut [u8], s: Selection) -> u32
+    requires { ⌜ length (now tables) ≡ tablesSize ⌝ }
+    requires { ⌜ tablesOf (now tables) .«phy_count» ≤ 32 ⌝ }
+    requires { ⌜ length (now medium) ≡ mediumSize (tablesOf (now tables)) ⌝ }
     requires { ⌜ 136 + dataLength (now body) ≤ length (now body) ⌝ }
-    requires { ⌜ s ≡ selectIn adapter (phyAsked (now body)) (portAsked (now body)) ⌝ }
-    ensures { λ code. ⌜ leaves code (now (medium .exit)) (now (body .exit)) ≡ passedTo adapter (now (medium .entry)) (now (body .entry)) s ⌝ }
+    requires { ⌜ s ≡ selectIn (tablesOf (now tables)) (phyAsked (now body)) (portAsked (now body)) ⌝ }
+    ensures { λ code. ⌜ leaves code (now (medium .exit)) (now (body .exit))
+        ≡ passedTo (tablesOf (now (tables .entry))) (now (medium .entry)) (now (body .entry)) s ⌝ }
 {
     if s.code == codes::SUCCESS {
-        return connect(adapter, medium, body, s.phy);
+        return connect(tables, medium, body, s.phy);
     }
     s.code
 }
 
-fn pass_selected(adapter: Adapter, medium: &mut [u8], body: &mut [u8]) -> u32
-    requires { ⌜ adapter .«phy_count» ≤ 32 ⌝ }
-    requires { ⌜ length (now medium) ≡ mediumSize adapter ⌝ }
+fn pass_selected(tables: &[u8], medium: &mut [u8], body: &mut [u8]) -> u32
+    requires { ⌜ length (now tables) ≡ tablesSize ⌝ }
+    requires { ⌜ tablesOf (now tables) .«phy_count» ≤ 32 ⌝ }
+    requires { ⌜ length (now medium) ≡ mediumSize (tablesOf (now tables)) ⌝ }
     requires { ⌜ 136 + dataLength (now body) ≤ length (now body) ⌝ }
-    ensures { λ code. ⌜ leaves code (now (medium .exit)) (now (body .exit)) ≡ passedTo adapter (now (medium .entry)) (now (body .entry)) (selectIn adapter (phyAsked (now (body .entry))) (portAsked (now (body .entry)))) ⌝ }
+    ensures { λ code. ⌜ leaves code (now (medium .exit)) (now (body .exit))
+        ≡ passedTo (tablesOf (now (tables .entry))) (now (medium .entry)) (now (body .entry))
+        (selectIn (tablesOf (now (tables .entry))) (phyAsked (now (body .entry))) (portAsked (now (body .entry)))) ⌝ }
 {
-    let s = select_phy(adapter, PhyIdentifier(body[0]), PortIdentifier(body[1]));
-    pass_to(adapter, medium, body, s)
+    let s = select_phy(tables, PhyIdentifier(body[0]), PortIdentifier(body[1]));
+    pass_to(tables, medium, body, s)
 }
 
 // Selects a phy, and sends the command to its disk if it is connected.
-pub fn pass_through(adapter: Adapter, medium: &mut [u8], body: &mut [u8]) -> u32
-    requires { ⌜ adapter .«phy_count» ≤ 32 ⌝ }
-    requires { ⌜ length (now medium) ≡ mediumSize adapter ⌝ }
+pub fn pass_through(tables: &[u8], medium: &mut [u8], body: &mut [u8]) -> u32
+    requires { ⌜ length (now tables) ≡ tablesSize ⌝ }
+    requires { ⌜ tablesOf (now tables) .«phy_count» ≤ 32 ⌝ }
+    requires { ⌜ length (now medium) ≡ mediumSize (tablesOf (now tables)) ⌝ }
     requires { ⌜ 136 + dataLength (now body) ≤ length (now body) ⌝ }
-    ensures { λ code. ⌜ leaves code (now (medium .exit)) (now (body .exit)) ≡ passthrough adapter (now (medium .entry)) (now (body .entry)) ⌝ }
+    ensures { λ code. ⌜ leaves code (now (medium .exit)) (now (body .exit))
+        ≡ passthrough (tablesOf (now (tables .entry))) (now (medium .entry)) (now (body .entry)) ⌝ }
 {
     if is_form(body[16], body[2]) {
-        return pass_selected(adapter, medium, body);
+        return pass_selected(tables, medium, body);
     }
     codes::INVALID_PARAMETER
 }

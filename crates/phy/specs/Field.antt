@@ -12,5 +12,5 @@ pub within : (l : List ℕ) (k n : ℕ) → length (map (λ (v : ℕ). v) l) ≡
 within l k n e h = rw (length-unmapped ℕ l n e) h
 
 -- n bytes of s that were copied over an array of n
-pub copied : (r d s : List ℕ) (from n N : ℕ) → length d ≡ n → length s ≡ N → from + n ≤ N → r ≡ splice d 0 (part s from n) → r ≡ part s from n
+pub copied : (r d s : List ℕ) (from n N : ℕ) → length d ≡ n → N ≤ length s → from + n ≤ N → r ≡ splice d 0 (part s from n) → r ≡ part s from n
 copied r d s from n N e f h p = splice-all d (part s from n) r (length-part s from n (omega arith) ∙ sym e) p

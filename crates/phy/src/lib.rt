@@ -3,7 +3,6 @@
 mod block;
 mod change;
 
-pub use block::zero_phy;
 ghost use mathlib.Core.Path.{_≡_};
 ghost use Rattle.phy.specs.Entity.{portOf, negotiatedOf, programmedMinimum, programmedMaximum, noDevice, isSata, attachedIs};
 

@@ -5,8 +5,7 @@ use Prim.Native.Nat.{ℕ}
 use lib.Dec.{ltb}
 use Rattle.laws.specs.Splice.{part, splice}
 use Rattle.codes.specs.Codes.{noDeviceAddress}
-use Rattle.rows.specs.declared.Row.{Row}
-use Rattle.rows.specs.Row.{rowAt, osIndex}
+use Rattle.rows.specs.Row.{Row, rowAt, osIndex}
 use Rattle.reports.specs.Report.{Report, report, filled}
 
 -- what row i gives where i is below a, the row count; else no row was found

@@ -1,9 +1,7 @@
 -- Code 20, get phy info (6.7). Assumes nothing.
-use mathlib.Core.Path.{_≡_}
 use mathlib.Core.List.{List, [], _∷_}
-use Prim.Native.Nat.{ℕ, _+_, _*_, _<_, _≤_}
-use native.Mathlib.Omega.{arith}
-use lib.ListN.{length, getD}
+use Prim.Native.Nat.{ℕ}
+use lib.ListN.{getD}
 use Rattle.laws.specs.Flat.{pieces}
 use Rattle.laws.specs.Splice.{splice}
 use Rattle.phy.specs.declared.Phy.{Phy}
@@ -21,9 +19,3 @@ entities phys p = pieces (entityAt phys) p 64 32 0
 -- "fill Information": the phy count and the "reserved bytes of the phy count's word", then the entities
 unfoldable pub phyInfo : List Phy → ℕ → List ℕ → Report
 phyInfo phys p body = filled (splice (splice body 0 (p ∷ 0 ∷ 0 ∷ 0 ∷ [])) 4 (entities phys p))
-
--- ---- for the proofs
-
--- entity i stands within the 32
-pub entity-within : (l : List ℕ) (i p : ℕ) → i < p → p ≤ 32 → length l ≡ 2048 → 64 * i + 64 ≤ length l
-entity-within l i p h k e = omega arith

@@ -5,8 +5,7 @@ use Prim.Native.Nat.{ℕ}
 use lib.Dec.{ltb}
 use Rattle.laws.specs.Splice.{part, splice}
 use Rattle.codes.specs.Codes.{noScsiAddress}
-use Rattle.rows.specs.declared.Row.{Row}
-use Rattle.rows.specs.Row.{rowAt, deviceIndex}
+use Rattle.rows.specs.Row.{Row, rowAt, deviceIndex}
 use Rattle.reports.specs.Report.{Report, report, filled}
 
 -- what row i gives where i is below a, the row count; else no row was found

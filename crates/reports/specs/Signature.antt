@@ -8,8 +8,7 @@ use Rattle.laws.specs.Splice.{splice}
 use Rattle.codes.specs.Codes.{phyDoesNotExist, noSataDevice, noSataSignature}
 use Rattle.phy.specs.declared.Phy.{Phy}
 use Rattle.phy.specs.Entity.{isSata}
-use Rattle.adapter.specs.declared.Adapter.{Adapter}
-use Rattle.adapter.specs.Adapter.{phyIn}
+use Rattle.adapter.specs.Adapter.{Adapter, phyIn}
 use Rattle.reports.specs.Report.{Report, report, filled}
 
 -- "SATA phy; signature held; fill it in"

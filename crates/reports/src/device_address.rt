@@ -1,45 +1,52 @@
 // Code 28, get device address.
-use rows::Row;
 ghost use mathlib.Core.Path.{_≡_};
-ghost use Prim.Native.Nat.{_≤_};
+ghost use Prim.Native.Nat.{_<_, _≤_};
 ghost use lib.ListN.{length};
 ghost use Rattle.laws.specs.Splice.{part, splice};
-ghost use Rattle.rows.specs.Row.{osIndex};
+ghost use Rattle.rows.specs.Row.{rowAt, osIndex};
+ghost use Rattle.tables.specs.Tables.{tablesSize, tablesOf};
 ghost use Rattle.reports.specs.Report.{report, filled};
 ghost use Rattle.reports.specs.DeviceAddress.{deviceBytes, deviceAddress};
 
-fn row_of(rows: [Row; 64], a: usize, body: &[u8]) -> usize
+fn row_of(tables: &[u8], a: usize, body: &[u8]) -> usize
     requires { ⌜ a ≤ 64 ⌝ }
+    requires { ⌜ length (now tables) ≡ tablesSize ⌝ }
     requires { ⌜ 20 ≤ length (now body) ⌝ }
-    ensures { λ r. ⌜ r ≡ osIndex rows a (part (now (body .entry)) 0 4) ⌝ }
+    ensures { λ r. ⌜ r ≡ osIndex (tablesOf (now (tables .entry)) .rows) a (part (now (body .entry)) 0 4) ⌝ }
 {
-    rows::find_os(rows, a, &body[0..4])
+    rows::find_os(&tables[tables::ROWS..tables::SIZE], a, &body[0..4])
 }
 
-fn put_device(row: Row, body: &mut [u8]) -> u32
+fn put_device(tables: &[u8], i: usize, body: &mut [u8]) -> u32
+    requires { ⌜ i < 64 ⌝ }
+    requires { ⌜ length (now tables) ≡ tablesSize ⌝ }
     requires { ⌜ 20 ≤ length (now body) ⌝ }
-    ensures { λ code. ⌜ report code (now (body .exit)) ≡ filled (splice (now (body .entry)) 4 (row .device)) ⌝ }
+    ensures { λ code. ⌜ report code (now (body .exit))
+        ≡ filled (splice (now (body .entry)) 4 (rowAt (tablesOf (now (tables .entry)) .rows) i .device)) ⌝ }
 {
-    let device = row.device;
-    wire::copy_at(body, 4, &device);
+    rows::put_device(&tables[tables::ROWS..tables::SIZE], i, body, 4);
     codes::SUCCESS
 }
 
-fn give_device(rows: [Row; 64], a: usize, i: usize, body: &mut [u8]) -> u32
+fn give_device(tables: &[u8], a: usize, i: usize, body: &mut [u8]) -> u32
     requires { ⌜ a ≤ 64 ⌝ }
+    requires { ⌜ length (now tables) ≡ tablesSize ⌝ }
     requires { ⌜ 20 ≤ length (now body) ⌝ }
-    ensures { λ code. ⌜ report code (now (body .exit)) ≡ deviceBytes rows a i (now (body .entry)) ⌝ }
+    ensures { λ code. ⌜ report code (now (body .exit)) ≡ deviceBytes (tablesOf (now (tables .entry)) .rows) a i (now (body .entry)) ⌝ }
 {
     if i < a {
-        return put_device(rows[i], body);
+        return put_device(tables, i, body);
     }
     codes::NO_DEVICE_ADDRESS
 }
 
-pub fn get_device_address(rows: [Row; 64], a: usize, body: &mut [u8]) -> u32
-    requires { ⌜ a ≤ 64 ⌝ }
+pub fn get_device_address(tables: &[u8], body: &mut [u8]) -> u32
+    requires { ⌜ length (now tables) ≡ tablesSize ⌝ }
+    requires { ⌜ tablesOf (now tables) .«row_count» ≤ 64 ⌝ }
     requires { ⌜ 20 ≤ length (now body) ⌝ }
-    ensures { λ code. ⌜ report code (now (body .exit)) ≡ deviceAddress rows a (now (body .entry)) ⌝ }
+    ensures { λ code. ⌜ report code (now (body .exit))
+        ≡ deviceAddress (tablesOf (now (tables .entry)) .rows) (tablesOf (now (tables .entry)) .«row_count») (now (body .entry)) ⌝ }
 {
-    give_device(rows, a, row_of(rows, a, body), body)
+    let a = tables::row_count(tables) as usize;
+    give_device(tables, a, row_of(tables, a, body), body)
 }

@@ -1,5 +1,5 @@
-// The requests that only report (document 01, "Request", codes 1, 20, 26, 27 and 28). Each works on the body of its request, the
-// buffer after its header, gives the return code, and changes nothing else.
+// The requests that only report (document 01, "Request", codes 1, 20, 26, 27 and 28). Each fills the body of its request, the buffer
+// after its header, straight from the lent tables, gives the return code, and changes nothing else.
 mod device_address;
 mod driver_info;
 mod phy_info;

@@ -1,14 +1,14 @@
 // Code 26, get SATA signature.
-use adapter::Adapter;
 use phy::Phy;
 use phy::PhyIdentifier;
 ghost use mathlib.Core.Path.{_≡_};
 ghost use Prim.Native.Nat.{_<_, _≤_};
 ghost use lib.ListN.{length};
+ghost use Rattle.laws.specs.Splice.{splice};
 ghost use Rattle.adapter.specs.Adapter.{phyIn};
+ghost use Rattle.tables.specs.Tables.{tablesSize, tablesOf};
 ghost use Rattle.reports.specs.Report.{report, filled};
 ghost use Rattle.reports.specs.Signature.{signatureOf, sataSignature};
-ghost use Rattle.laws.specs.Splice.{splice};
 
 fn put_signature(phy: Phy, body: &mut [u8]) -> u32
     requires { ⌜ 24 ≤ length (now body) ⌝ }
@@ -32,21 +32,23 @@ fn held_signature(phy: Phy, body: &mut [u8]) -> u32
     codes::NO_SATA_DEVICE
 }
 
-fn signature_of(adapter: Adapter, n: PhyIdentifier, body: &mut [u8]) -> u32
+fn signature_of(tables: &[u8], n: PhyIdentifier, body: &mut [u8]) -> u32
     requires { ⌜ n .0 < 32 ⌝ }
+    requires { ⌜ length (now tables) ≡ tablesSize ⌝ }
     requires { ⌜ 24 ≤ length (now body) ⌝ }
-    ensures { λ code. ⌜ report code (now (body .exit)) ≡ signatureOf (phyIn adapter (n .0)) (now (body .entry)) ⌝ }
+    ensures { λ code. ⌜ report code (now (body .exit)) ≡ signatureOf (phyIn (tablesOf (now (tables .entry))) (n .0)) (now (body .entry)) ⌝ }
 {
-    held_signature(adapter.phy(n), body)
+    held_signature(tables::phy_at(tables, n), body)
 }
 
-pub fn get_signature(adapter: Adapter, body: &mut [u8]) -> u32
-    requires { ⌜ adapter .«phy_count» ≤ 32 ⌝ }
+pub fn get_signature(tables: &[u8], body: &mut [u8]) -> u32
+    requires { ⌜ length (now tables) ≡ tablesSize ⌝ }
+    requires { ⌜ tablesOf (now tables) .«phy_count» ≤ 32 ⌝ }
     requires { ⌜ 24 ≤ length (now body) ⌝ }
-    ensures { λ code. ⌜ report code (now (body .exit)) ≡ sataSignature adapter (now (body .entry)) ⌝ }
+    ensures { λ code. ⌜ report code (now (body .exit)) ≡ sataSignature (tablesOf (now (tables .entry))) (now (body .entry)) ⌝ }
 {
-    if body[0] < adapter.phy_count {
-        return signature_of(adapter, PhyIdentifier(body[0]), body);
+    if tables::phy_exists(tables, body[0]) {
+        return signature_of(tables, PhyIdentifier(body[0]), body);
     }
     codes::PHY_DOES_NOT_EXIST
 }

@@ -1,48 +1,52 @@
 // Lines that put values into the state that no call put there.
+use crate::PHYS;
+use crate::ROWS;
 use crate::line::field;
 use crate::line::patch;
-use level::Level;
-use phy::Phy;
-use rows::Row;
-use state::State;
+ghost use mathlib.Core.Path.{_≡_};
+ghost use lib.ListN.{length};
+ghost use Rattle.state.specs.State.{stateSize};
 
-fn phy_line(state: State, s: &[u8]) -> State {
-    let n = (field(s, 1) % 32) as usize;
-    let level = state.level;
-    let mut adapter = state.adapter;
-    let mut block = [0u8; 512];
-    patch(&mut block, s, 2);
-    adapter.phys[n] = Phy::from_block(&block);
-    State { level, adapter }
+// The words from word 2 on, over zeros.
+fn put_part(part: &mut [u8], s: &[u8]) {
+    wire::clear(part, 0, part.len());
+    patch(part, s, 2);
 }
 
-fn row_line(state: State, s: &[u8]) -> State {
-    let i = (field(s, 1) % 64) as usize;
-    let level = state.level;
-    let mut adapter = state.adapter;
-    let mut bytes = [0u8; 20];
-    patch(&mut bytes, s, 2);
-    adapter.rows[i] = Row::from_bytes(&bytes, 0);
-    State { level, adapter }
+fn phy_line(state: &mut [u8], s: &[u8])
+    requires { ⌜ length (now state) ≡ stateSize ⌝ }
+{
+    let at = PHYS + 104 * (field(s, 1) % 32) as usize;
+    put_part(&mut state[at..at + 104], s);
 }
 
-fn count_line(state: State, s: &[u8]) -> State {
-    let level = Level((field(s, 1) % 256) as u8);
-    let mut adapter = state.adapter;
-    adapter.phy_count = (field(s, 2) % 256) as u8;
-    adapter.row_count = (field(s, 3) % 256) as u8;
-    State { level, adapter }
+fn row_line(state: &mut [u8], s: &[u8])
+    requires { ⌜ length (now state) ≡ stateSize ⌝ }
+{
+    let at = ROWS + 20 * (field(s, 1) % 64) as usize;
+    put_part(&mut state[at..at + 20], s);
 }
 
-pub fn damage(state: State, s: &[u8], c: u8) -> State {
+fn count_line(state: &mut [u8], s: &[u8])
+    requires { ⌜ length (now state) ≡ stateSize ⌝ }
+{
+    state[0] = (field(s, 1) % 256) as u8;
+    state[1] = (field(s, 2) % 256) as u8;
+    state[2] = (field(s, 3) % 256) as u8;
+}
+
+pub fn damage(state: &mut [u8], s: &[u8], c: u8)
+    requires { ⌜ length (now state) ≡ stateSize ⌝ }
+{
     if c == b'y' {
-        return phy_line(state, s);
+        phy_line(state, s);
+        return;
     }
     if c == b'w' {
-        return row_line(state, s);
+        row_line(state, s);
+        return;
     }
     if c == b'l' {
-        return count_line(state, s);
+        count_line(state, s);
     }
-    state
 }

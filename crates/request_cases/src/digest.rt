@@ -1,7 +1,9 @@
 // Numbers that stand for every byte of a slice and of a state, its place and its value.
-use phy::Phy;
-use rows::Row;
-use state::State;
+use crate::PHYS;
+use crate::ROWS;
+ghost use mathlib.Core.Path.{_≡_};
+ghost use lib.ListN.{length};
+ghost use Rattle.state.specs.State.{stateSize};
 
 fn mixed(d: u64, n: u32) -> u64 {
     (d % 4294967311 * 257 + n as u64) % 4294967311
@@ -22,49 +24,37 @@ pub fn digest(before: u64, s: &[u8]) -> u64 {
     d
 }
 
-fn mixed_phy(before: u64, phy: Phy) -> u64 {
-    let entity = phy.entity;
-    let n = phy.counters;
-    let signature = phy.signature;
-    let single = [phy.held, phy.fixed, phy.lowest, phy.highest];
-    let d = digest(digest(digest(before, &entity), &signature), &single);
-    mixed(mixed(mixed(mixed(d, n[0]), n[1]), n[2]), n[3])
+// The four counters of a phy, each a number.
+fn mixed_counters(d: u64, phy: &[u8]) -> u64
+    requires { ⌜ length (now phy) ≡ 104 ⌝ }
+{
+    let two = mixed(mixed(d, wire::read32(phy, 64)), wire::read32(phy, 68));
+    mixed(mixed(two, wire::read32(phy, 72)), wire::read32(phy, 76))
 }
 
-fn mixed_phys(before: u64, phys: [Phy; 32]) -> u64 {
+// A phy, its counters behind its other bytes.
+fn mixed_phy(before: u64, phy: &[u8]) -> u64
+    requires { ⌜ length (now phy) ≡ 104 ⌝ }
+{
+    mixed_counters(digest(digest(before, &phy[0..64]), &phy[80..]), phy)
+}
+
+fn mixed_phys(before: u64, phys: &[u8]) -> u64
+    requires { ⌜ length (now phys) ≡ 3328 ⌝ }
+{
     let mut d = before;
     let mut n = 0;
     while n < 32 {
-        d = mixed_phy(d, phys[n]);
+        d = mixed_phy(d, &phys[104 * n..104 * n + 104]);
         n += 1;
     }
     d
 }
 
-fn mixed_row(before: u64, row: Row) -> u64 {
-    let device = row.device;
-    let os = row.os;
-    digest(digest(before, &device), &os)
-}
-
-fn mixed_rows(before: u64, rows: [Row; 64]) -> u64 {
-    let mut d = before;
-    let mut i = 0;
-    while i < 64 {
-        d = mixed_row(d, rows[i]);
-        i += 1;
-    }
-    d
-}
-
-pub fn state_digest(state: State) -> u64 {
-    let info = state.adapter.info;
-    let phys = state.adapter.phys;
-    let rows = state.adapter.rows;
-    let single = [
-        state.level.0,
-        state.adapter.phy_count,
-        state.adapter.row_count,
-    ];
-    mixed_rows(mixed_phys(digest(digest(1, &single), &info), phys), rows)
+// The level, the counts and the driver info, the phys, and the rows.
+pub fn state_digest(state: &[u8]) -> u64
+    requires { ⌜ length (now state) ≡ stateSize ⌝ }
+{
+    let before = mixed_phys(digest(1, &state[0..PHYS]), &state[PHYS..ROWS]);
+    digest(before, &state[ROWS..])
 }

@@ -17,17 +17,21 @@ mod line;
 use damage::damage;
 use digest::digest;
 use digest::state_digest;
-use level::Level;
 use libc::STDIN_FILENO;
 use libc::STDOUT_FILENO;
 use line::field;
 use line::past;
 use line::patch;
 use line::word;
-use state::State;
 ghost use mathlib.Core.Path.{_≡_};
 ghost use Prim.Native.Nat.{_<_, _≤_};
 ghost use lib.ListN.{length};
+ghost use Rattle.state.specs.State.{stateSize};
+
+// Where the phys and the rows of a state start. Before them stand the level, the two counts and the driver info.
+const PHYS: usize = 177;
+
+const ROWS: usize = 3505;
 
 fn say(text: &[u8]) {
     io::write_all(STDOUT_FILENO, text);
@@ -39,20 +43,22 @@ fn say_number(n: u64) {
 }
 
 // The digests of a file or a buffer, of the medium and of the state.
-fn show(s: &[u8], medium: &[u8], state: State) {
+fn show(s: &[u8], medium: &[u8], state: &[u8])
+    requires { ⌜ length (now state) ≡ stateSize ⌝ }
+{
     say_number(digest(1, s));
     say_number(digest(1, medium));
     say_number(state_digest(state));
     say(b"\n");
 }
 
-fn open(text: &[u8], file: &[u8], medium: &[u8]) -> State {
-    let r = dispatch::open(text, file, medium);
-    let state = r.state;
+fn open(text: &[u8], file: &[u8], medium: &[u8], state: &mut [u8])
+    requires { ⌜ length (now state) ≡ stateSize ⌝ }
+{
+    let call = dispatch::open(text, file, medium, state);
     say(b"o");
-    say_number(r.call as u64);
+    say_number(call as u64);
     show(file, medium, state);
-    state
 }
 
 // Byte i becomes step × (i + 1) modulo 251, so step 0 makes zeros.
@@ -67,14 +73,14 @@ fn fill(d: &mut [u8], step: u32) {
     }
 }
 
-fn open_line(s: &[u8], file: &[u8], medium: &mut [u8]) -> State
-    requires { ⌜ (length (now file) ≡ 65536) × (length (now medium) ≡ 262144) ⌝ }
+fn open_line(state: &mut [u8], s: &[u8], file: &[u8], medium: &mut [u8])
+    requires { ⌜ (length (now state) ≡ stateSize) × (length (now file) ≡ 65536) × (length (now medium) ≡ 262144) ⌝ }
 {
     let m = (field(s, 1) % 262145) as usize;
     let f = (field(s, 2) % 65537) as usize;
     let text = word(s, 4);
     fill(medium, field(s, 3));
-    open(&s[text..], &file[..f], &medium[..m])
+    open(&s[text..], &file[0..f], &medium[0..m], state);
 }
 
 fn put_header(buffer: &mut [u8], control: u32, n: u32)
@@ -103,28 +109,30 @@ fn say_code(call: u32, buffer: &[u8]) {
     say(b" -");
 }
 
-fn show_reply(call: u32, buffer: &[u8], medium: &[u8], state: State) {
+fn show_reply(call: u32, buffer: &[u8], medium: &[u8], state: &[u8])
+    requires { ⌜ length (now state) ≡ stateSize ⌝ }
+{
     say(b"q");
     say_number(call as u64);
     say_code(call, buffer);
     show(buffer, medium, state);
 }
 
-fn send(before: State, medium: &mut [u8], buffer: &mut [u8]) -> State {
-    let h = dispatch::request(before, medium, buffer);
-    let state = h.state;
-    show_reply(h.call, buffer, medium, state);
-    state
+fn send(state: &mut [u8], medium: &mut [u8], buffer: &mut [u8])
+    requires { ⌜ length (now state) ≡ stateSize ⌝ }
+{
+    let call = dispatch::request(state, medium, buffer);
+    show_reply(call, buffer, medium, state);
 }
 
-fn request_line(state: State, s: &[u8], medium: &mut [u8]) -> State
-    requires { ⌜ length (now medium) ≡ 262144 ⌝ }
+fn request_line(state: &mut [u8], s: &[u8], medium: &mut [u8])
+    requires { ⌜ (length (now state) ≡ stateSize) × (length (now medium) ≡ 262144) ⌝ }
 {
     let mut buffer = io::large_buffer();
     let m = (field(s, 1) % 262145) as usize;
     let n = (field(s, 2) % 65537) as usize;
     put_request(&mut buffer, s);
-    send(state, &mut medium[..m], &mut buffer[..n])
+    send(state, &mut medium[0..m], &mut buffer[0..n]);
 }
 
 fn heading(s: &[u8]) {
@@ -154,37 +162,31 @@ fn file_line(s: &[u8], file: &mut [u8], c: u8)
     }
 }
 
-fn call_line(state: State, s: &[u8], file: &[u8], medium: &mut [u8], c: u8) -> State
-    requires { ⌜ (length (now file) ≡ 65536) × (length (now medium) ≡ 262144) ⌝ }
+fn call_line(state: &mut [u8], s: &[u8], file: &[u8], medium: &mut [u8], c: u8)
+    requires { ⌜ (length (now state) ≡ stateSize) × (length (now file) ≡ 65536) × (length (now medium) ≡ 262144) ⌝ }
 {
     if c == b'q' {
-        return request_line(state, s, medium);
+        request_line(state, s, medium);
+        return;
     }
     if c == b'o' {
-        return open_line(s, file, medium);
+        open_line(state, s, file, medium);
+        return;
     }
-    damage(state, s, c)
+    damage(state, s, c);
 }
 
-fn do_lines(input: &[u8], file: &mut [u8], medium: &mut [u8])
-    requires { ⌜ (length (now file) ≡ 65536) × (length (now medium) ≡ 262144) ⌝ }
+fn do_lines(state: &mut [u8], input: &[u8], file: &mut [u8], medium: &mut [u8])
+    requires { ⌜ (length (now state) ≡ stateSize) × (length (now file) ≡ 65536) × (length (now medium) ≡ 262144) ⌝ }
 {
-    let mut state = first_state();
     let mut from = 0;
     while from < input.len() {
         let end = past(input, from, b'\n');
         let line = &input[from..end - 1];
         let c = input[from];
         file_line(line, file, c);
-        state = call_line(state, line, file, medium, c);
+        call_line(state, line, file, medium, c);
         from = end;
-    }
-}
-
-fn first_state() -> State {
-    State {
-        level: Level::NONE,
-        adapter: adapter::zero_adapter(),
     }
 }
 
@@ -199,6 +201,7 @@ fn main() {
     let mut input = room();
     let mut file = io::large_buffer();
     let mut medium = room();
+    let mut state = [0u8; dispatch::SIZE];
     let n = io::read_full(STDIN_FILENO, &mut input);
-    do_lines(&input[..n], &mut file, &mut medium);
+    do_lines(&mut state, &input[0..n], &mut file, &mut medium);
 }

@@ -1,17 +1,13 @@
 -- The two conversions undo each other on rows that hold (document 01: "27: the row with that SAS address and LUN gives the
 -- four OS bytes; 28: the other way"). Assumes nothing.
-use mathlib.Core.Path.{_≡_, refl, sym}
-use mathlib.Core.Bool.{Bool, true, false, not, _||_, cond, false≢true}
+use mathlib.Core.Path.{_≡_, refl}
+use mathlib.Core.Bool.{Bool, true, false, not, _||_, false≢true}
 use mathlib.Core.List.{List}
-use Prim.Native.Nat.{ℕ, zero, suc, _+_, _-_, _<_, _≤_}
-use native.Mathlib.Numerals.{add-one}
-use native.Mathlib.Omega.{arith}
-use Rattle.laws.specs.Choice.{by-bool}
+use Prim.Native.Nat.{ℕ, _-_, _<_}
 use Rattle.laws.specs.All.{all-at}
 use Rattle.laws.specs.First.{first, first-at, first-only}
 use Rattle.wire.specs.Same.{sameBytes, same-refl, same-eq}
-use Rattle.rows.specs.declared.Row.{Row}
-use Rattle.rows.specs.Row.{rowAt, apart, fresh, rowsHold, deviceIndex, osIndex}
+use Rattle.rows.specs.Row.{Row, rowAt, apart, fresh, rowsHold, deviceIndex, osIndex}
 
 -- ---- rows that hold share no key, be it the device or the OS bytes
 

@@ -1,3 +1,5 @@
 pub mod Row
 pub mod Read
 pub mod Conversions
+pub mod Same
+pub mod Seen

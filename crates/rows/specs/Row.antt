@@ -2,19 +2,34 @@
 use mathlib.Core.Path.{_≡_, ap₂}
 use mathlib.Core.Bool.{Bool, true, not, _&&_, _||_}
 use mathlib.Core.List.{List, []}
-use Prim.Native.Nat.{ℕ, _+_, _-_, _<_, _≤_}
+use Prim.Native.Nat.{ℕ, _+_, _-_, _*_, _<_, _≤_}
 use native.Mathlib.Omega.{arith}
 use lib.ListN.{getD, replicate}
 use Rattle.laws.specs.Choice.{both, both-left, both-right}
 use Rattle.laws.specs.All.{allTo, all-at, all-by}
+use Rattle.laws.specs.Fill.{listTo}
 use Rattle.laws.specs.First.{first}
 use Rattle.laws.specs.Splice.{part}
 use Rattle.wire.specs.Same.{sameBytes, same-refl, same-eq}
-use Rattle.rows.specs.declared.Row.{Row}
+
+-- a row: its SAS address and LUN, and its four OS bytes, "host index, path, target, LUN"
+pub record Row : Type 0 where
+  pub device : List ℕ
+  pub os : List ℕ
 
 -- "rows of 20 bytes ..: SAS address 8, SAS LUN 8, host index, path, target, LUN": the row whose bytes stand at an index
 unfoldable pub rowOf : List ℕ → ℕ → Row
 rowOf bytes at = record { device = part bytes at 16; os = part bytes (at + 16) 4 }
+
+-- the 64 rows of an adapter, one behind the other
+abbrev pub rowsSize : ℕ
+rowsSize = 1280
+
+abbrev pub rowStart : ℕ → ℕ
+rowStart i = 20 * i
+
+unfoldable pub rowsOf : List ℕ → List Row
+rowsOf bytes = listTo (λ (i : ℕ). rowOf bytes (rowStart i)) 64
 
 -- what "zero past p and a" asks of a row
 abbrev pub zeroRow : Row

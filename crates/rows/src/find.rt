@@ -1,19 +1,47 @@
-// The row for a device, and the row for four OS bytes: what codes 27 and 28 look up.
-use crate::Row;
-use crate::has_device;
-use crate::has_os;
+// The row for a device, and the row for four OS bytes: what codes 27 and 28 look up, and what they answer.
+use crate::place;
 ghost use mathlib.Core.Path.{_≡_};
-ghost use Prim.Native.Nat.{_≤_};
-ghost use Rattle.rows.specs.Row.{deviceIndex, osIndex};
+ghost use Prim.Native.Nat.{_+_, _<_, _≤_};
+ghost use lib.ListN.{length};
+ghost use Rattle.laws.specs.Splice.{splice};
+ghost use Rattle.wire.specs.Same.{sameBytes};
+ghost use Rattle.rows.specs.Row.{rowsSize, rowsOf, rowAt, deviceIndex, osIndex};
+
+// Row i has this SAS address and LUN. The last byte of the address, which seldom is the same, is compared first.
+fn has_device(rows: &[u8], i: usize, device: &[u8]) -> bool
+    requires { ⌜ (i < 64) × (length (now rows) ≡ rowsSize) ⌝ }
+    requires { ⌜ length (now device) ≡ 16 ⌝ }
+    ensures { λ r. ⌜ r ≡ sameBytes (rowAt (rowsOf (now (rows .entry))) i .device) (now (device .entry)) ⌝ }
+{
+    let at = place(i);
+    if rows[at + 7] == device[7] {
+        return wire::same16(rows, at, device, 0);
+    }
+    false
+}
+
+// Row i has these four OS bytes. The target is compared first.
+fn has_os(rows: &[u8], i: usize, os: &[u8]) -> bool
+    requires { ⌜ (i < 64) × (length (now rows) ≡ rowsSize) ⌝ }
+    requires { ⌜ length (now os) ≡ 4 ⌝ }
+    ensures { λ r. ⌜ r ≡ sameBytes (rowAt (rowsOf (now (rows .entry))) i .os) (now (os .entry)) ⌝ }
+{
+    let at = place(i) + 16;
+    if rows[at + 2] == os[2] {
+        return wire::same4(rows, at, os, 0);
+    }
+    false
+}
 
 // The first of `a` rows that has this SAS address and LUN, or a.
-pub fn find_device(rows: [Row; 64], a: usize, device: &[u8]) -> usize
-    requires { ⌜ a ≤ 64 ⌝ }
-    ensures { λ r. ⌜ r ≡ deviceIndex rows a (now (device .entry)) ⌝ }
+pub fn find_device(rows: &[u8], a: usize, device: &[u8]) -> usize
+    requires { ⌜ (a ≤ 64) × (length (now rows) ≡ rowsSize) ⌝ }
+    requires { ⌜ length (now device) ≡ 16 ⌝ }
+    ensures { λ r. ⌜ r ≡ deviceIndex (rowsOf (now (rows .entry))) a (now (device .entry)) ⌝ }
 {
     let mut i = 0;
     while i < a {
-        if has_device(rows[i], device) {
+        if has_device(rows, i, device) {
             return i;
         }
         i += 1;
@@ -22,16 +50,35 @@ pub fn find_device(rows: [Row; 64], a: usize, device: &[u8]) -> usize
 }
 
 // The first of `a` rows that has these four OS bytes, or a.
-pub fn find_os(rows: [Row; 64], a: usize, os: &[u8]) -> usize
-    requires { ⌜ a ≤ 64 ⌝ }
-    ensures { λ r. ⌜ r ≡ osIndex rows a (now (os .entry)) ⌝ }
+pub fn find_os(rows: &[u8], a: usize, os: &[u8]) -> usize
+    requires { ⌜ (a ≤ 64) × (length (now rows) ≡ rowsSize) ⌝ }
+    requires { ⌜ length (now os) ≡ 4 ⌝ }
+    ensures { λ r. ⌜ r ≡ osIndex (rowsOf (now (rows .entry))) a (now (os .entry)) ⌝ }
 {
     let mut i = 0;
     while i < a {
-        if has_os(rows[i], os) {
+        if has_os(rows, i, os) {
             return i;
         }
         i += 1;
     }
     a
+}
+
+// Row i's SAS address and LUN, put at an index.
+pub fn put_device(rows: &[u8], i: usize, d: &mut [u8], at: usize)
+    requires { ⌜ (i < 64) × (length (now rows) ≡ rowsSize) ⌝ }
+    requires { ⌜ at + 16 ≤ length (now d) ⌝ }
+    ensures { λ _. ⌜ now (d .exit) ≡ splice (now (d .entry)) at (rowAt (rowsOf (now (rows .entry))) i .device) ⌝ }
+{
+    wire::copy_part(d, at, rows, place(i), 16);
+}
+
+// Row i's four OS bytes, put at an index.
+pub fn put_os(rows: &[u8], i: usize, d: &mut [u8], at: usize)
+    requires { ⌜ (i < 64) × (length (now rows) ≡ rowsSize) ⌝ }
+    requires { ⌜ at + 4 ≤ length (now d) ⌝ }
+    ensures { λ _. ⌜ now (d .exit) ≡ splice (now (d .entry)) at (rowAt (rowsOf (now (rows .entry))) i .os) ⌝ }
+{
+    wire::copy_part(d, at, rows, place(i) + 16, 4);
 }

@@ -8,7 +8,7 @@ use borrow.Author.Tests.{le-leb, leb-false}
 use Rattle.laws.specs.Choice.{by-bool, not-false, either-by, came-else}
 use Rattle.phy.specs.declared.PhyIdentifier.{PhyIdentifier}
 use Rattle.phy.specs.declared.PortIdentifier.{PortIdentifier}
-use Rattle.adapter.specs.declared.Adapter.{Adapter}
+use Rattle.adapter.specs.Adapter.{Adapter}
 use Rattle.select.specs.declared.Selection.{Selection}
 use Rattle.select.specs.Select.{phyGiven, portGiven, selection, selectBy, selectIn}
 
@@ -23,8 +23,8 @@ selection-past phy port p lowest own own′ r h e =
     (λ g. rw (g, le-leb p (phy .0) h) refl) (λ g. rw g refl) (phyGiven phy) refl
 
 -- the lowest phy of a port that is not given does not matter
-pub selection-portless : (phy : PhyIdentifier) (port : PortIdentifier) (p lowest lowest′ : ℕ) (own : PortIdentifier) (given : Bool) (r : Selection) → given ≡ portGiven port
-    → given ≡ false → r ≡ selection phy port p lowest own → r ≡ selection phy port p lowest′ own
+pub selection-portless : (phy : PhyIdentifier) (port : PortIdentifier) (p lowest lowest′ : ℕ) (own : PortIdentifier) (given : Bool) (r : Selection)
+    → given ≡ portGiven port → given ≡ false → r ≡ selection phy port p lowest own → r ≡ selection phy port p lowest′ own
 unfolding selection
 selection-portless phy port p lowest lowest′ own given r f h e =
     e

@@ -8,8 +8,7 @@ use Rattle.codes.specs.Codes.{success, selectPhyOrPort, phyDoesNotExist, portDo
 use Rattle.phy.specs.declared.PhyIdentifier.{PhyIdentifier}
 use Rattle.phy.specs.declared.PortIdentifier.{PortIdentifier}
 use Rattle.phy.specs.Entity.{portOf}
-use Rattle.adapter.specs.declared.Adapter.{Adapter}
-use Rattle.adapter.specs.Adapter.{phyIn}
+use Rattle.adapter.specs.Adapter.{Adapter, phyIn}
 use Rattle.select.specs.declared.Selection.{Selection}
 
 -- FFh stands for a phy or a port that is not given

@@ -1,16 +1,13 @@
 // The phy that a code 25 selects (document 01, "Request"), by a phy identifier, a port identifier, or both.
-use adapter::Adapter;
-use phy::Phy;
 use phy::PhyIdentifier;
 use phy::PortIdentifier;
 ghost use mathlib.Core.Path.{_≡_};
 ghost use mathlib.Core.Bool.{_&&_, not};
-ghost use Prim.Native.Nat.{ℕ, _<_, _≤_};
+ghost use Prim.Native.Nat.{_<_, _≤_};
 ghost use lib.Dec.{eqb, leb};
-ghost use lib.ListN.{getD};
-ghost use Rattle.phy.specs.Block.{noPhy};
-ghost use Rattle.phy.specs.Entity.{portOf};
-ghost use Rattle.select.specs.Select.{phyGiven, portGiven, lowestOf, selection, none, selected, portIn, selectIn};
+ghost use lib.ListN.{length};
+ghost use Rattle.tables.specs.Tables.{tablesSize, tablesOf};
+ghost use Rattle.select.specs.Select.{phyGiven, portGiven, lowestOf, selection, none, selected, selectBy, portIn, selectIn};
 
 // The phy that was selected, where code is 0.
 pub struct Selection {
@@ -106,21 +103,25 @@ fn judge(
     selected(PhyIdentifier(lowest))
 }
 
-fn has_port(phy: Phy, port: PortIdentifier) -> bool
-    ensures { λ r. ⌜ r ≡ eqb (portOf phy .0) (port .0) ⌝ }
+// Phy n has that port.
+fn has_port(tables: &[u8], n: PhyIdentifier, port: PortIdentifier) -> bool
+    requires { ⌜ n .0 < 32 ⌝ }
+    requires { ⌜ length (now tables) ≡ tablesSize ⌝ }
+    ensures { λ r. ⌜ r ≡ eqb (portIn (tablesOf (now (tables .entry))) (n .0) .0) (port .0) ⌝ }
 {
-    let own = phy.port();
+    let own = tables::port_at(tables, n);
     own.0 == port.0
 }
 
 // The first phy of a port, or p.
-fn lowest(phys: [Phy; 32], p: u8, port: PortIdentifier) -> u8
+fn lowest(tables: &[u8], p: u8, port: PortIdentifier) -> u8
     requires { ⌜ p ≤ 32 ⌝ }
-    ensures { λ r. ⌜ r ≡ lowestOf (λ (n : ℕ). portOf (getD phys n noPhy)) p port ⌝ }
+    requires { ⌜ length (now tables) ≡ tablesSize ⌝ }
+    ensures { λ r. ⌜ r ≡ lowestOf (portIn (tablesOf (now (tables .entry)))) p port ⌝ }
 {
     let mut i = 0;
     while i < p {
-        if has_port(phys[i as usize], port) {
+        if has_port(tables, PhyIdentifier(i), port) {
             return i;
         }
         i += 1;
@@ -130,44 +131,56 @@ fn lowest(phys: [Phy; 32], p: u8, port: PortIdentifier) -> u8
 
 // A phy that exists, and its own port.
 fn select_existing(
-    adapter: Adapter,
+    tables: &[u8],
+    p: u8,
     phy: PhyIdentifier,
     port: PortIdentifier,
     lowest: u8,
 ) -> Selection
     requires { ⌜ phy .0 < 32 ⌝ }
-    ensures { λ r. ⌜ r ≡ selection phy port (adapter .«phy_count») lowest (portIn adapter (phy .0)) ⌝ }
+    requires { ⌜ length (now tables) ≡ tablesSize ⌝ }
+    ensures { λ r. ⌜ r ≡ selection phy port p lowest (portIn (tablesOf (now (tables .entry))) (phy .0)) ⌝ }
 {
-    judge(
-        phy,
-        port,
-        adapter.phy_count,
-        lowest,
-        adapter.phy(phy).port(),
-    )
+    judge(phy, port, p, lowest, tables::port_at(tables, phy))
 }
 
-fn select_from(adapter: Adapter, phy: PhyIdentifier, port: PortIdentifier, lowest: u8) -> Selection
-    requires { ⌜ adapter .«phy_count» ≤ 32 ⌝ }
-    ensures { λ r. ⌜ r ≡ selection phy port (adapter .«phy_count») lowest (portIn adapter (phy .0)) ⌝ }
+// With the lowest phy of the port.
+fn select_from(
+    tables: &[u8],
+    p: u8,
+    phy: PhyIdentifier,
+    port: PortIdentifier,
+    lowest: u8,
+) -> Selection
+    requires { ⌜ p ≤ 32 ⌝ }
+    requires { ⌜ length (now tables) ≡ tablesSize ⌝ }
+    ensures { λ r. ⌜ r ≡ selection phy port p lowest (portIn (tablesOf (now (tables .entry))) (phy .0)) ⌝ }
 {
-    if phy.0 < adapter.phy_count {
-        return select_existing(adapter, phy, port, lowest);
+    if phy.0 < p {
+        return select_existing(tables, p, phy, port, lowest);
     }
     // there is no such phy, so its port does not matter
-    judge(phy, port, adapter.phy_count, lowest, port)
+    judge(phy, port, p, lowest, port)
+}
+
+// Out of the phys below p.
+fn select_below(tables: &[u8], p: u8, phy: PhyIdentifier, port: PortIdentifier) -> Selection
+    requires { ⌜ p ≤ 32 ⌝ }
+    requires { ⌜ length (now tables) ≡ tablesSize ⌝ }
+    ensures { λ r. ⌜ r ≡ selectBy (portIn (tablesOf (now (tables .entry)))) p phy port ⌝ }
+{
+    if port_given(port) {
+        return select_from(tables, p, phy, port, lowest(tables, p, port));
+    }
+    // no port to look for
+    select_from(tables, p, phy, port, 0)
 }
 
 // The phy for a phy identifier and a port identifier, each of which may stand for none.
-pub fn select_phy(adapter: Adapter, phy: PhyIdentifier, port: PortIdentifier) -> Selection
-    requires { ⌜ adapter .«phy_count» ≤ 32 ⌝ }
-    ensures { λ r. ⌜ r ≡ selectIn adapter phy port ⌝ }
+pub fn select_phy(tables: &[u8], phy: PhyIdentifier, port: PortIdentifier) -> Selection
+    requires { ⌜ length (now tables) ≡ tablesSize ⌝ }
+    requires { ⌜ tablesOf (now tables) .«phy_count» ≤ 32 ⌝ }
+    ensures { λ r. ⌜ r ≡ selectIn (tablesOf (now (tables .entry))) phy port ⌝ }
 {
-    if port_given(port) {
-        let phys = adapter.phys;
-        let lowest = lowest(phys, adapter.phy_count, port);
-        return select_from(adapter, phy, port, lowest);
-    }
-    // no port to look for
-    select_from(adapter, phy, port, 0)
+    select_below(tables, tables::phy_count(tables), phy, port)
 }

@@ -6,12 +6,11 @@ use native.Mathlib.Nat.{le-trans, le-add-right}
 use Rattle.codes.specs.Codes.{stpPassthru}
 use Rattle.disk.specs.Disk.{dataLength}
 use Rattle.header.specs.Table.{structureSize, dataSize}
-use Rattle.adapter.specs.declared.Adapter.{Adapter}
-use Rattle.change.specs.declared.Change.{Change}
-use Rattle.change.specs.Changed.{Served as Result, Changed, keeps, applied, servedBy, left}
+use Rattle.adapter.specs.Adapter.{Adapter}
+use Rattle.adapter.specs.Changed.{Changed, leaves}
 use Rattle.reports.specs.Report.{Report, report}
 use Rattle.passthrough.specs.Passthrough.{Passed, leaves as passes}
-use Rattle.service.specs.Serve.{leaves, changed, reported, passed}
+use Rattle.service.specs.Serve.{serves, changed, reported, passed}
 
 -- ---- rooms
 
@@ -32,20 +31,13 @@ passthrough-lent control n body e h = rw e at h
 
 -- ---- what a call left
 
-pub changed-by : (ad : Adapter) (c : Change) (medium body : List ℕ) (x : Changed) → left (servedBy ad c) body ≡ x
-    → leaves (c .code) (applied ad c) medium body ≡ changed medium x
-changed-by ad c medium body x e = ap (changed medium) e
+-- where it sees no disk
+pub changed-by : (code : ℕ) (ad : Adapter) (medium body : List ℕ) (x : Changed) → leaves code ad body ≡ x → serves code ad medium body ≡ changed medium x
+changed-by code ad medium body x e = ap (changed medium) e
 
-pub set-by : (ad : Adapter) (c : Change) (s : Result) (medium body : List ℕ) → servedBy ad c ≡ s
-    → leaves (c .code) (applied ad c) medium body ≡ changed medium (left s body)
-set-by ad c s medium body e = ap (λ (r : Result). changed medium (left r body)) e
+-- where it changes no table
+pub reported-by : (code : ℕ) (ad : Adapter) (medium body : List ℕ) (r : Report) → report code body ≡ r → serves code ad medium body ≡ changed medium (reported ad r)
+reported-by code ad medium body r e = ap (λ (x : Report). changed medium (reported ad x)) e
 
--- where no phy is stored
-module _ (ad : Adapter) (code : ℕ) (c : Change) (e : c ≡ keeps code) where
-  pub reported-by : (body : List ℕ) (r : Report) → report code body ≡ r → left (servedBy ad c) body ≡ reported ad r
-  unfolding keeps applied
-  reported-by body r p = rw e (ap (reported ad) p)
-
-  pub passed-by : (medium body : List ℕ) (p : Passed) → passes code medium body ≡ p → leaves (c .code) (applied ad c) medium body ≡ passed ad p
-  unfolding keeps applied
-  passed-by medium body p q = rw e (ap (passed ad) q)
+pub passed-by : (code : ℕ) (ad : Adapter) (medium body : List ℕ) (p : Passed) → passes code medium body ≡ p → serves code ad medium body ≡ passed ad p
+passed-by code ad medium body p e = ap (passed ad) e

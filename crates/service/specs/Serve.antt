@@ -5,14 +5,14 @@ use mathlib.Core.List.{List}
 use Prim.Native.Nat.{ℕ}
 use lib.Dec.{eqb}
 use Rattle.codes.specs.Codes.{getDriverInfo, getPhyInfo, setPhyInfo, getLinkErrors, stpPassthru, getSataSignature, getScsiAddress, getDeviceAddress, badControlCode}
-use Rattle.adapter.specs.declared.Adapter.{Adapter}
+use Rattle.adapter.specs.Adapter.{Adapter}
+use Rattle.adapter.specs.Changed.{Changed}
 use Rattle.reports.specs.Report.{Report, report}
 use Rattle.reports.specs.DriverInfo.{driverInfo}
 use Rattle.reports.specs.PhyInfo.{phyInfo}
 use Rattle.reports.specs.Signature.{sataSignature}
 use Rattle.reports.specs.ScsiAddress.{scsiAddress}
 use Rattle.reports.specs.DeviceAddress.{deviceAddress}
-use Rattle.change.specs.Changed.{Changed, left as changedBy}
 use Rattle.set_phy_info.specs.SetPhyInfo.{setPhyInfo as setInfo}
 use Rattle.link_errors.specs.LinkErrors.{linkErrors}
 use Rattle.passthrough.specs.Passthrough.{Passed, passthrough}
@@ -25,8 +25,8 @@ pub record Served : Type 0 where
   pub body : List ℕ
 
 -- the four together
-abbrev pub leaves : ℕ → Adapter → List ℕ → List ℕ → Served
-leaves code ad medium body = record { code = code; adapter = ad; medium = medium; body = body }
+abbrev pub serves : ℕ → Adapter → List ℕ → List ℕ → Served
+serves code ad medium body = record { code = code; adapter = ad; medium = medium; body = body }
 
 -- a request that only reports changes no table
 abbrev pub reported : Adapter → Report → Changed
@@ -34,11 +34,11 @@ reported ad r = record { code = r .code; adapter = ad; body = r .body }
 
 -- one that sees no disk
 abbrev pub changed : List ℕ → Changed → Served
-changed medium c = leaves (c .code) (c .adapter) medium (c .body)
+changed medium c = serves (c .code) (c .adapter) medium (c .body)
 
 -- one that changes no table
 abbrev pub passed : Adapter → Passed → Served
-passed ad p = leaves (p .code) ad (p .medium) (p .body)
+passed ad p = serves (p .code) ad (p .medium) (p .body)
 
 -- codes 1, 20, 26, 27 and 28; no other comes here: `served` takes 21, 22 and 25 before, and the header's checks refuse the rest
 unfoldable pub reportOf : Adapter → ℕ → List ℕ → Report
@@ -53,7 +53,7 @@ reportOf ad control body =
 -- every code
 unfoldable pub served : Adapter → List ℕ → ℕ → List ℕ → Served
 served ad medium control body =
-    cond (eqb control setPhyInfo) (changed medium (changedBy (setInfo ad body) body))
+    cond (eqb control setPhyInfo) (changed medium (setInfo ad body))
     (cond (eqb control getLinkErrors) (changed medium (linkErrors ad body))
     (cond (eqb control stpPassthru) (passed ad (passthrough ad medium body))
     (changed medium (reported ad (reportOf ad control body)))))

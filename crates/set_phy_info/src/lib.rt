@@ -1,17 +1,15 @@
-// Code 21, set phy info (document 01, "Request"). It works on the body of its request, the buffer after its header, and gives the return
-// code and the phy that it stores, if any.
-use adapter::Adapter;
-use change::Change;
-use change::unchanged;
+// Code 21, set phy info (document 01, "Request"). It works on the body of its request, the buffer after its header, and on the tables, in which
+// it stores the phy that it changes. It gives the return code.
 use phy::Phy;
 use phy::PhyIdentifier;
 ghost use mathlib.Core.Path.{_≡_};
 ghost use Prim.Native.Nat.{_<_, _≤_};
 ghost use lib.ListN.{length};
 ghost use Rattle.codes.specs.Codes.{phyInfoChanged};
-ghost use Rattle.adapter.specs.Adapter.{phyIn};
+ghost use Rattle.adapter.specs.Adapter.{phyIn, withPhy};
+ghost use Rattle.adapter.specs.Changed.{gives, leaves};
+ghost use Rattle.tables.specs.Tables.{tablesSize, tablesOf};
 ghost use Rattle.set_phy_info.specs.SetPhyInfo.{asked, programmable, resulting, parametersHold, ratesHold, linked, setTo, setChecked, setPhy, setPhyInfo};
-ghost use Rattle.change.specs.Changed.{stores, servedBy};
 
 // What a code 21 asks: the negotiated byte, the two programmed bytes, and the signal class.
 pub struct PhySetting {
@@ -75,60 +73,84 @@ fn link(negotiated: u8, phy: Phy) -> Phy
     link::reset(phy)
 }
 
-fn change(n: PhyIdentifier, phy: Phy, s: PhySetting, minimum: u8, maximum: u8) -> Change
+fn set_to(phy: Phy, s: PhySetting, minimum: u8, maximum: u8) -> Phy
     requires { ⌜ (minimum < 16) × (maximum < 16) ⌝ }
-    ensures { λ r. ⌜ r ≡ stores phyInfoChanged n (setTo phy s minimum maximum) ⌝ }
+    ensures { λ r. ⌜ r ≡ setTo phy s minimum maximum ⌝ }
 {
     let configured = phy.configured(s.class, minimum, maximum);
-    Change {
-        code: codes::PHY_INFO_CHANGED,
-        stored: true,
-        number: n,
-        phy: link(s.negotiated, configured),
-    }
+    link(s.negotiated, configured)
 }
 
-fn set_checked(n: PhyIdentifier, phy: Phy, s: PhySetting, minimum: u8, maximum: u8) -> Change
-    ensures { λ r. ⌜ r ≡ setChecked n phy s minimum maximum ⌝ }
+fn change(
+    tables: &mut [u8],
+    n: PhyIdentifier,
+    phy: Phy,
+    s: PhySetting,
+    minimum: u8,
+    maximum: u8,
+) -> u32
+    requires { ⌜ n .0 < 32 ⌝ }
+    requires { ⌜ length (now tables) ≡ tablesSize ⌝ }
+    requires { ⌜ (minimum < 16) × (maximum < 16) ⌝ }
+    ensures { λ code. ⌜ gives code (tablesOf (now (tables .exit))) ≡ gives phyInfoChanged (withPhy (tablesOf (now (tables .entry))) (n .0) (setTo phy s minimum maximum)) ⌝ }
+{
+    tables::store_phy(tables, n, set_to(phy, s, minimum, maximum));
+    codes::PHY_INFO_CHANGED
+}
+
+fn set_checked(
+    tables: &mut [u8],
+    n: PhyIdentifier,
+    phy: Phy,
+    s: PhySetting,
+    minimum: u8,
+    maximum: u8,
+) -> u32
+    requires { ⌜ n .0 < 32 ⌝ }
+    requires { ⌜ length (now tables) ≡ tablesSize ⌝ }
+    ensures { λ code. ⌜ gives code (tablesOf (now (tables .exit))) ≡ setChecked (tablesOf (now (tables .entry))) n phy s minimum maximum ⌝ }
 {
     if phy.fixed == 1 {
-        return unchanged(codes::PHY_INFO_NOT_CHANGEABLE);
+        return codes::PHY_INFO_NOT_CHANGEABLE;
     }
     if parameters_hold(s) {
         if rates_hold(phy, s, minimum, maximum) {
-            return change(n, phy, s, minimum, maximum);
+            return change(tables, n, phy, s, minimum, maximum);
         }
-        return unchanged(codes::LINK_RATE_OUT_OF_RANGE);
+        return codes::LINK_RATE_OUT_OF_RANGE;
     }
-    unchanged(codes::INVALID_PARAMETER)
+    codes::INVALID_PARAMETER
 }
 
-fn set_phy(n: PhyIdentifier, phy: Phy, s: PhySetting) -> Change
-    ensures { λ r. ⌜ r ≡ setPhy n phy s ⌝ }
+fn set_phy(tables: &mut [u8], n: PhyIdentifier, phy: Phy, s: PhySetting) -> u32
+    requires { ⌜ n .0 < 32 ⌝ }
+    requires { ⌜ length (now tables) ≡ tablesSize ⌝ }
+    ensures { λ code. ⌜ gives code (tablesOf (now (tables .exit))) ≡ setPhy (tablesOf (now (tables .entry))) n phy s ⌝ }
 {
     let minimum = result(s.minimum, phy.programmed_minimum());
     let maximum = result(s.maximum, phy.programmed_maximum());
-    set_checked(n, phy, s, minimum, maximum)
+    set_checked(tables, n, phy, s, minimum, maximum)
 }
 
-fn set_existing(adapter: Adapter, n: PhyIdentifier, body: &[u8]) -> Change
+fn set_existing(tables: &mut [u8], n: PhyIdentifier, body: &[u8]) -> u32
     requires { ⌜ n .0 < 32 ⌝ }
+    requires { ⌜ length (now tables) ≡ tablesSize ⌝ }
     requires { ⌜ 8 ≤ length (now body) ⌝ }
-    ensures { λ r. ⌜ r ≡ setPhy n (phyIn adapter (n .0)) (asked (now (body .entry))) ⌝ }
-    ensures { λ r. ⌜ r .number .0 < 32 ⌝ }
+    ensures { λ code. ⌜ gives code (tablesOf (now (tables .exit))) ≡ setPhy (tablesOf (now (tables .entry))) n (phyIn (tablesOf (now (tables .entry))) (n .0)) (asked (now (body .entry))) ⌝ }
 {
-    set_phy(n, adapter.phy(n), parse(body))
+    let phy = tables::phy_at(tables, n);
+    set_phy(tables, n, phy, parse(body))
 }
 
 // Sets a phy's signal class and programmed rates, and disables it or resets its link.
-pub fn set_info(adapter: Adapter, body: &[u8]) -> Change
-    requires { ⌜ adapter .«phy_count» ≤ 32 ⌝ }
+pub fn set_info(tables: &mut [u8], body: &[u8]) -> u32
+    requires { ⌜ length (now tables) ≡ tablesSize ⌝ }
+    requires { ⌜ tablesOf (now tables) .«phy_count» ≤ 32 ⌝ }
     requires { ⌜ 8 ≤ length (now body) ⌝ }
-    ensures { λ r. ⌜ servedBy adapter r ≡ setPhyInfo adapter (now (body .entry)) ⌝ }
-    ensures { λ r. ⌜ r .number .0 < 32 ⌝ }
+    ensures { λ code. ⌜ leaves code (tablesOf (now (tables .exit))) (now (body .entry)) ≡ setPhyInfo (tablesOf (now (tables .entry))) (now (body .entry)) ⌝ }
 {
-    if body[0] < adapter.phy_count {
-        return set_existing(adapter, PhyIdentifier(body[0]), body);
+    if tables::phy_exists(tables, body[0]) {
+        return set_existing(tables, PhyIdentifier(body[0]), body);
     }
-    unchanged(codes::PHY_DOES_NOT_EXIST)
+    codes::PHY_DOES_NOT_EXIST
 }

@@ -40,13 +40,14 @@ fn read_file(path: &[u8], buf: &mut [u8]) -> usize
 
 // Opens the adapter, and handles the session where that is accepted.
 fn simulate(text: &[u8], file: &[u8], medium: &mut [u8]) {
-    let opened = dispatch::open(text, file, medium);
-    if opened.call == 0 {
+    let mut state = [0u8; dispatch::SIZE];
+    let call = dispatch::open(text, file, medium, &mut state);
+    if call == 0 {
         say_title();
-        run(opened.state, medium);
+        run(&mut state, medium);
         return;
     }
-    say_open(opened.call);
+    say_open(call);
 }
 
 // The disks of p phys.
@@ -55,7 +56,7 @@ fn with_disks(text: &[u8], file: &[u8], p: u8)
 {
     let mut medium = [0u8; 57344];
     let size = 8192 * p as usize;
-    simulate(text, file, &mut medium[..size]);
+    simulate(text, file, &mut medium[0..size]);
 }
 
 // Byte 0 of the file, which is its phy count.
@@ -80,5 +81,5 @@ fn main() {
     let mut file = [0u8; FILE_LIMIT];
     let t = read_file(b"level.txt", &mut text);
     let f = read_file(b"adapter.bin", &mut file);
-    start(&text[..t], &file[..f]);
+    start(&text[0..t], &file[0..f]);
 }

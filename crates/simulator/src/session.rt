@@ -1,74 +1,60 @@
-// A session on standard input: each request a 4-byte length, then its bytes.
+// A session on standard input: each request a 4-byte length, then its bytes. What takes a request says whether the session goes on.
 use crate::print::say_cut;
 use crate::print::say_request;
-use dispatch::State;
 use libc::STDIN_FILENO;
 ghost use Prim.Native.Nat.{_≤_};
 
 // The longest request.
 const REQUEST_LIMIT: u32 = 32768;
 
-// A state to go on with, or the session's end.
-struct Step {
-    more: bool,
-    state: State,
-}
-
-fn ended(state: State) -> Step {
-    Step { more: false, state }
-}
-
-fn cut(state: State) -> Step {
+// Input that ends within a request, or a request that is too long, ends the session.
+fn cut() -> bool {
     say_cut();
-    ended(state)
+    false
 }
 
 // Handles the request whose bytes are in buffer.
-fn handle(state: State, medium: &mut [u8], buffer: &mut [u8], number: u64) -> Step {
-    let handled = dispatch::request(state, medium, buffer);
-    say_request(number, handled.call, buffer);
-    let next = handled.state;
-    Step {
-        more: true,
-        state: next,
-    }
+fn handle(state: &mut [u8], medium: &mut [u8], buffer: &mut [u8], number: u64) -> bool {
+    let call = dispatch::request(state, medium, buffer);
+    say_request(number, call, buffer);
+    true
 }
 
 // Reads a request into all of buffer, and handles it.
-fn read_request(state: State, medium: &mut [u8], buffer: &mut [u8], number: u64) -> Step {
+fn read_request(state: &mut [u8], medium: &mut [u8], buffer: &mut [u8], number: u64) -> bool {
     if io::read_full(STDIN_FILENO, buffer) < buffer.len() {
-        return cut(state);
+        return cut();
     }
     handle(state, medium, buffer, number)
 }
 
-fn take_request(state: State, medium: &mut [u8], size: usize, number: u64) -> Step
+fn take_request(state: &mut [u8], medium: &mut [u8], size: usize, number: u64) -> bool
     requires { ⌜ size ≤ 32768 ⌝ }
 {
     let mut buffer = [0u8; 32768];
-    read_request(state, medium, &mut buffer[..size], number)
+    read_request(state, medium, &mut buffer[0..size], number)
 }
 
 // A length that was read whole.
-fn sized(state: State, medium: &mut [u8], size: u32, number: u64) -> Step {
+fn sized(state: &mut [u8], medium: &mut [u8], size: u32, number: u64) -> bool {
     if REQUEST_LIMIT < size {
-        return cut(state);
+        return cut();
     }
     take_request(state, medium, size as usize, number)
 }
 
 // A length of which n bytes were read.
-fn measured(state: State, medium: &mut [u8], n: usize, size: u32, number: u64) -> Step {
+fn measured(state: &mut [u8], medium: &mut [u8], n: usize, size: u32, number: u64) -> bool {
     if n == 0 {
-        return ended(state);
+        return false;
     }
     if n < 4 {
-        return cut(state);
+        return cut();
     }
     sized(state, medium, size, number)
 }
 
-fn next_request(state: State, medium: &mut [u8], number: u64) -> Step {
+fn next_request(state: &mut [u8], medium: &mut [u8], number: u64) -> bool {
     let mut length = [0u8; 4];
     let n = io::read_full(STDIN_FILENO, &mut length);
     measured(state, medium, n, wire::read32(&length, 0), number)
@@ -76,13 +62,10 @@ fn next_request(state: State, medium: &mut [u8], number: u64) -> Step {
 
 // Requests are numbered from 1. A proved loop has to end, and nothing says that the input does, so the loop stops at a number that
 // no session reaches.
-pub fn run(first: State, medium: &mut [u8]) {
-    let mut state = first;
+pub fn run(state: &mut [u8], medium: &mut [u8]) {
     let mut number = 1u64;
     while number < 18446744073709551615 {
-        let next = next_request(state, medium, number);
-        if next.more {
-            state = next.state;
+        if next_request(state, medium, number) {
             number += 1;
         } else {
             return;

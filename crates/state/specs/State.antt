@@ -1,17 +1,35 @@
--- The state of the simulator and the rules that 107 tests (document 01, "From the state"). The rules on counts, fields and rows are the
--- ones that the opening tests. Assumes nothing.
+-- The state of the simulator, the bytes that stand for it, and the rules that 107 tests (document 01, "From the state"). The rules on counts,
+-- fields and rows are the ones that the opening tests. Assumes nothing.
 use mathlib.Core.Bool.{Bool, _&&_}
+use mathlib.Core.List.{List}
+use Prim.Native.Nat.{ℕ}
 use lib.Dec.{leb}
+use lib.ListN.{getD, drop}
+use Rattle.level.specs.declared.Level.{Level}
 use Rattle.level.specs.Text.{none}
 use Rattle.rows.specs.Row.{rowsHold}
-use Rattle.adapter.specs.declared.Adapter.{Adapter}
-use Rattle.adapter.specs.Adapter.{zeroAdapter, countsHold, fieldsAll, zeroPast}
+use Rattle.adapter.specs.Adapter.{Adapter, zeroAdapter, countsHold, fieldsAll, zeroPast}
 use Rattle.link.specs.All.{negotiatedAll}
-use Rattle.state.specs.declared.State.{State}
+use Rattle.tables.specs.Tables.{tablesOf}
+
+-- "The state is the level and what the file holds": the level apart, so that what serves a request need not see it
+pub record State : Type 0 where
+  pub level : Level
+  pub adapter : Adapter
+
+abbrev pub stateWith : Level → Adapter → State
+stateWith level ad = record { level = level; adapter = ad }
+
+-- the state that lent bytes stand for: the level's byte, and the tables behind it. Every list of that length stands for one
+abbrev pub stateSize : ℕ
+stateSize = 4785
+
+unfoldable pub stateOf : List ℕ → State
+stateOf bytes = stateWith (record { 0 = getD bytes 0 0 }) (tablesOf (drop 1 bytes))
 
 -- "the zero state, p = 0, level 0"
 unfoldable pub zeroState : State
-zeroState = record { level = none; adapter = zeroAdapter }
+zeroState = stateWith none zeroAdapter
 
 -- the "field or row rules", the negotiated rates with them, and "zero past p and a"
 unfoldable pub tablesHold : Adapter → Bool

@@ -1,22 +1,11 @@
-// The state of the simulator, the rules that it has to keep, and the call that opens an adapter (document 01, "Adapter file" and
-// "From the state").
+// The state of the simulator as bytes that the caller lends, the rules that it has to keep, and the call that opens an adapter (document 01,
+// "Adapter file" and "From the state"). Byte 0 is the level, and behind it stand the tables.
+mod hold;
 mod opening;
-mod rules;
 
-use adapter::Adapter;
-use level::Level;
-pub use opening::medium_size;
+pub use hold::medium_size;
+pub use hold::state_holds;
 pub use opening::open;
-pub use rules::state_holds;
 
-// The level apart from the tables and counters, so that what serves a request need not see it.
-pub struct State {
-    pub level: Level,
-    pub adapter: Adapter,
-}
-
-// What an opening gives: its number and the state, which is zero where the number is not 0.
-pub struct Opened {
-    pub call: u32,
-    pub state: State,
-}
+// How many bytes a state has.
+pub const SIZE: usize = 4785;

@@ -1,92 +1,118 @@
 // The call that opens an adapter.
-use crate::Opened;
-use crate::State;
-use adapter::Adapter;
+use crate::SIZE;
+use crate::hold::disks_size;
+use crate::hold::rows_apart;
 use level::Level;
 use level::TextLevel;
 ghost use mathlib.Core.Path.{_≡_};
 ghost use Prim.Native.Nat.{_≤_};
+ghost use lib.ListN.{length};
+ghost use Rattle.tables.specs.Tables.{tablesSize, tablesOf};
+ghost use Rattle.level.specs.Text.{textLevel};
 ghost use Rattle.file.specs.File.{fileRead};
-ghost use Rattle.rows.specs.Row.{rowsHold};
-ghost use Rattle.state.specs.State.{zeroState};
-ghost use Rattle.state.specs.Open.{refused, judged, openedFile, openedText, openedOf};
-ghost use Rattle.adapter.specs.Adapter.{mediumSize};
+ghost use Rattle.state.specs.State.{stateSize, stateOf};
+ghost use Rattle.state.specs.Open.{opens, refused, opened, tablesNumber, openNumber, settled, openedFile, openedText, openedOf, OpenCall};
 
-fn zero_state() -> State
-    ensures { λ r. ⌜ r ≡ zeroState ⌝ }
+// Leaves the zero state.
+fn refuse(state: &mut [u8], call: u32) -> u32
+    requires { ⌜ length (now state) ≡ stateSize ⌝ }
+    ensures { λ r. ⌜ opens r (stateOf (now (state .exit))) ≡ refused call ⌝ }
 {
-    State {
-        level: Level::NONE,
-        adapter: adapter::zero_adapter(),
+    wire::clear(state, 0, SIZE);
+    call
+}
+
+// Sets the level.
+fn accept(state: &mut [u8], level: Level) -> u32
+    requires { ⌜ length (now state) ≡ stateSize ⌝ }
+    ensures { λ r. ⌜ opens r (stateOf (now (state .exit))) ≡ opened level (stateOf (now (state .entry)) .adapter) ⌝ }
+{
+    state[0] = level.0;
+    0
+}
+
+fn settle(state: &mut [u8], number: u32, level: Level) -> u32
+    requires { ⌜ length (now state) ≡ stateSize ⌝ }
+    ensures { λ r. ⌜ opens r (stateOf (now (state .exit))) ≡ settled number level (stateOf (now (state .entry)) .adapter) ⌝ }
+{
+    if number == 0 {
+        return accept(state, level);
     }
-}
-
-fn refuse(call: u32) -> Opened
-    ensures { λ r. ⌜ r ≡ refused call ⌝ }
-{
-    Opened {
-        call,
-        state: zero_state(),
-    }
-}
-
-fn rows_apart(adapter: Adapter) -> bool
-    requires { ⌜ adapter .«row_count» ≤ 64 ⌝ }
-    ensures { λ r. ⌜ r ≡ rowsHold (adapter .rows) (adapter .«row_count») ⌝ }
-{
-    let rows = adapter.rows;
-    rows::rows_hold(rows, adapter.row_count as usize)
-}
-
-// The bytes of all the disks.
-pub fn medium_size(adapter: Adapter) -> usize
-    ensures { λ r. ⌜ r ≡ mediumSize adapter ⌝ }
-{
-    8192 * adapter.phy_count as usize
+    refuse(state, number)
 }
 
 // The negotiated rates, the rows and the medium's length.
-fn judge(level: Level, adapter: Adapter, size: usize) -> Opened
-    requires { ⌜ (adapter .«phy_count» ≤ 32) × (adapter .«row_count» ≤ 64) ⌝ }
-    ensures { λ r. ⌜ r ≡ judged level adapter size ⌝ }
+fn tables_number(tables: &[u8], size: usize) -> u32
+    requires { ⌜ length (now tables) ≡ tablesSize ⌝ }
+    requires { ⌜ (tablesOf (now tables) .«phy_count» ≤ 32) × (tablesOf (now tables) .«row_count» ≤ 64) ⌝ }
+    ensures { λ r. ⌜ r ≡ tablesNumber (tablesOf (now (tables .entry))) size ⌝ }
 {
-    if link::all_negotiated(adapter) {
-        if rows_apart(adapter) {
-            if medium_size(adapter) == size {
-                return Opened {
-                    call: 0,
-                    state: State { level, adapter },
-                };
+    if link::all_negotiated(tables) {
+        if rows_apart(tables) {
+            if disks_size(tables) == size {
+                return 0;
             }
-            return refuse(codes::MEDIUM_LENGTH);
+            return codes::MEDIUM_LENGTH;
         }
-        return refuse(codes::SHARED_ROW);
+        return codes::SHARED_ROW;
     }
-    refuse(codes::BAD_FIELD)
+    codes::BAD_FIELD
 }
 
-fn open_file(level: Level, file: &[u8], size: usize) -> Opened
-    ensures { λ r. ⌜ r ≡ openedFile level (fileRead (now (file .entry))) size ⌝ }
+// What the file holds, in the tables.
+fn load(tables: &mut [u8], file: &[u8], size: usize) -> u32
+    requires { ⌜ length (now tables) ≡ tablesSize ⌝ }
+    ensures { λ r. ⌜ r ≡ openNumber (fileRead (now (file .entry))) size ⌝ }
+    ensures { λ _. ⌜ tablesOf (now (tables .exit)) ≡ fileRead (now (file .entry)) .adapter ⌝ }
 {
-    let f = file::read_file(file);
-    if f.call == 0 {
-        return judge(level, f.adapter, size);
+    let call = file::read_file(tables, file);
+    if call == 0 {
+        return tables_number(tables, size);
     }
-    refuse(f.call)
+    call
 }
 
-fn open_text(t: TextLevel, file: &[u8], size: usize) -> Opened
-    ensures { λ r. ⌜ r ≡ openedText t (now (file .entry)) size ⌝ }
+// The tables behind the level's byte are lent.
+fn load_state(state: &mut [u8], file: &[u8], size: usize) -> u32
+    requires { ⌜ length (now state) ≡ stateSize ⌝ }
+    ensures { λ r. ⌜ r ≡ openNumber (fileRead (now (file .entry))) size ⌝ }
+    ensures { λ _. ⌜ stateOf (now (state .exit)) .adapter ≡ fileRead (now (file .entry)) .adapter ⌝ }
+{
+    load(&mut state[1..], file, size)
+}
+
+fn open_file(state: &mut [u8], level: Level, file: &[u8], size: usize) -> u32
+    requires { ⌜ length (now state) ≡ stateSize ⌝ }
+    ensures { λ r. ⌜ opens r (stateOf (now (state .exit))) ≡ openedFile level (fileRead (now (file .entry))) size ⌝ }
+{
+    let number = load_state(state, file, size);
+    settle(state, number, level)
+}
+
+fn open_text(state: &mut [u8], t: TextLevel, file: &[u8], size: usize) -> u32
+    requires { ⌜ length (now state) ≡ stateSize ⌝ }
+    ensures { λ r. ⌜ opens r (stateOf (now (state .exit))) ≡ openedText t (now (file .entry)) size ⌝ }
 {
     if t.call == 0 {
-        return open_file(t.level, file, size);
+        return open_file(state, t.level, file, size);
     }
-    refuse(t.call)
+    refuse(state, t.call)
 }
 
-// Opens the adapter of a file, at the level of a text, with the disks of a medium.
-pub fn open(text: &[u8], file: &[u8], medium: &[u8]) -> Opened
-    ensures { λ r. ⌜ r ≡ openedOf (now (text .entry)) (now (file .entry)) (now (medium .entry)) ⌝ }
+fn open_state(text: &[u8], file: &[u8], size: usize, state: &mut [u8]) -> u32
+    requires { ⌜ length (now state) ≡ stateSize ⌝ }
+    ensures { λ r. ⌜ opens r (stateOf (now (state .exit))) ≡ openedText (textLevel (now (text .entry))) (now (file .entry)) size ⌝ }
 {
-    open_text(level::of_text(text), file, medium.len())
+    open_text(state, level::of_text(text), file, size)
+}
+
+// Opens the adapter of a file, at the level of a text, with the disks of a medium, and leaves its state. A refused opening leaves the zero
+// state; a state of another length is not touched.
+pub fn open(text: &[u8], file: &[u8], medium: &[u8], state: &mut [u8]) -> u32
+    ensures { λ r. ⌜ OpenCall (now (text .entry)) (now (file .entry)) (now (medium .entry)) (now (state .entry)) r (now (state .exit)) ⌝ }
+{
+    if state.len() == SIZE {
+        return open_state(text, file, medium.len(), state);
+    }
+    codes::BAD_STATE
 }

@@ -1,2 +1,5 @@
 pub mod Number
 pub mod Same
+pub mod Words
+pub mod Zero
+pub mod Sixteens

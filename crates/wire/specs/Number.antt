@@ -1,14 +1,18 @@
 -- Numbers as bytes, little-endian: "numbers little-endian unless it says MSB" (document 01). One definition each way
 -- serves every width. Assumes nothing.
-use mathlib.Core.Path.{_≡_, refl, ap}
+use mathlib.Core.Path.{_≡_, refl, sym, _∙_, ap}
+use mathlib.Core.Bool.{Bool}
 use mathlib.Core.List.{List, [], _∷_}
 use Prim.Native.Nat.{ℕ, zero, suc, _+_, _*_, _/_, _%_, _^_, _<_, _≤_}
 use native.Mathlib.Nat.{add-zero}
 use native.Mathlib.Numerals.{towards-suc}
 use native.Mathlib.Omega.{arith}
-use lib.ListN.{length, getD, set}
+use lib.Dec.{ltb}
+use lib.ListN.{length, getD, set, List·getD-eq-default}
 use lib.Seq.{drop-cons}
-use Rattle.laws.specs.Splice.{part, splice, stores}
+use borrow.Author.Tests.{ltb-true, ltb-false}
+use Rattle.laws.specs.Choice.{by-bool}
+use Rattle.laws.specs.Splice.{part, splice, stores, length-part, getD-part}
 
 -- the number that some bytes are, the lowest first
 unfoldable pub number : List ℕ → ℕ
@@ -63,3 +67,29 @@ bytes-four d at n h =
     let p : n / 256 / 256 ≡ n / 65536 = omega arith in
     let q : n / 65536 / 256 ≡ n / 16777216 = omega arith in
     rw (p, q) (simp towards-suc (stores d at (n % 256 ∷ n / 256 % 256 ∷ n / 65536 % 256 ∷ n / 16777216 % 256 ∷ []) h))
+
+-- ---- bytes read as a number and written back
+
+-- each element is a byte
+abbrev pub Bytes : List ℕ → Type 0
+Bytes l = (i : ℕ) → getD l i 0 < 256
+
+pub bytes-number : (l : List ℕ) → Bytes l → bytes (length l) (number l) ≡ l
+unfolding bytes number
+bytes-number [] h = refl
+bytes-number (x ∷ l) h =
+    let b : x < 256 = h 0 in
+    let p : (x + 256 * number l) % 256 ≡ x = omega arith in
+    let q : (x + 256 * number l) / 256 ≡ number l = omega arith in
+    rw (p, q, bytes-number l (λ i. h (suc i)))
+
+-- a part of bytes is bytes
+pub bytes-part : (l : List ℕ) (at n : ℕ) → Bytes l → at + n ≤ length l → Bytes (part l at n)
+bytes-part l at n h k i =
+    by-bool (λ (t : Bool). ltb i n ≡ t → getD (part l at n) i 0 < 256) (λ p. rw (getD-part l at n i 0 (ltb-true i n p)) (h (at + i)))
+    (λ p. rw (List·getD-eq-default (part l at n) 0 {n = i} (rw (length-part l at n k) (ltb-false i n p))) (omega arith)) (ltb i n) refl
+
+-- the four bytes at an index
+pub word-back : (l : List ℕ) (at : ℕ) → Bytes l → at + 4 ≤ length l → bytes 4 (number (part l at 4)) ≡ part l at 4
+word-back l at h k =
+    ap (λ (n : ℕ). bytes n (number (part l at 4))) (sym (length-part l at 4 k)) ∙ bytes-number (part l at 4) (bytes-part l at 4 h k)

@@ -6,7 +6,7 @@ use Prim.Native.Nat.{ℕ, _+_, _-_, _<_, _≤_}
 use native.Mathlib.Omega.{arith}
 use native.Mathlib.Nat.{le-antisymm}
 use lib.Dec.{eqb, eqb·suc-zero}
-use lib.ListN.{length, getD, take, drop, replicate, length-take, length-drop, drop-of-length-le, length-replicate, getD-replicate}
+use lib.ListN.{length, getD, take, drop, replicate, length-take, length-drop, drop-of-length-le}
 use lib.Seq.{ext-getD, take-nil}
 use borrow.Author.Needs.{needs}
 use borrow.Author.Tests.{eq-eqb, eqb-true}
@@ -90,26 +90,3 @@ same-short s at text h l =
     omega (arith, simp (length-take, length-drop) at e)))
 
 pub ruleset same-loop = (all-none, all-more, same-done, same-bad, eq-eqb, needs)
-
--- ---- the loop that looks for a byte that is not 0
-
-pub zero-done : (s : List ℕ) (at n k : ℕ) → at + n ≤ length s → k ≤ n → n ≤ k → allTo (λ (i : ℕ). eqb (getD s (at + i) 0) 0) k ≡ true
-    → true ≡ allZero (part s at n)
-unfolding allZero
-zero-done s at n k h l m p =
-    let e : length (part s at n) ≡ n = length-part s at n h in
-    let q : allTo (λ (i : ℕ). eqb (getD s (at + i) 0) 0) n ≡ true = rw (le-antisymm l m) at p in
-    sym (eq-same (part s at n) (replicate (length (part s at n)) 0)
-    (ext-getD 0 (part s at n) (replicate (length (part s at n)) 0) (sym (length-replicate (length (part s at n)) 0))
-    (λ i j. let b : i < n = rw e at j in
-    getD-part s at n i 0 b ∙ eqb-true (getD s (at + i) 0) 0 (all-at (λ (m : ℕ). eqb (getD s (at + m) 0) 0) n i q b)
-    ∙ sym (getD-replicate (length (part s at n)) i 0 0 j))))
-
-pub zero-bad : (s : List ℕ) (at n k : ℕ) → at + n ≤ length s → k < n → (getD s (at + k) 0 ≡ 0 → ⊥) → false ≡ allZero (part s at n)
-unfolding allZero
-zero-bad s at n k h l q =
-    let b : k < length (part s at n) = rw (length-part s at n h) l in
-    sym (ne-same (part s at n) (replicate (length (part s at n)) 0)
-    (λ p. q (sym (getD-part s at n k 0 l) ∙ ap (λ (x : List ℕ). getD x k 0) p ∙ getD-replicate (length (part s at n)) k 0 0 b)))
-
-pub ruleset zero-loop = (all-none, all-more, zero-done, zero-bad, eq-eqb, needs)

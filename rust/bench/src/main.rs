@@ -1,11 +1,14 @@
-//! `bench`: requests per second of the library, of the model, and of the model with the state tested once for a run, on the same
-//! sessions, as a Markdown table. The opening of each session is measured alone and subtracted.
+//! `bench`: thousands of requests per second of the library by its run and by its calls, and of the model, also over a state as bytes and
+//! with the state tested once for a run, on the same sessions, as a Markdown table; then the aims. The opening of each session is measured
+//! alone and subtracted.
 //!
 //! `bench --count SIDE SESSION P A N`: that side alone, on that session, N times; to be counted from outside.
 
+mod aims;
 mod measure;
 mod workload;
 
+use aims::{Aims, Ratios};
 use measure::{Copies, Times, MEASURED};
 use std::process::ExitCode;
 use std::time::Duration;
@@ -45,46 +48,60 @@ fn list() {
 
 fn table() {
     println!(
-        "| session | p | a | library requests/s | model requests/s | library/model \
-         | model with the state tested once requests/s | library/that |"
+        "| session | p | a | run | calls | model | run/model | calls/model \
+         | model, state as bytes | calls/that | model, state tested once | run/that |"
     );
-    println!("|---|---|---|---|---|---|---|---|");
+    println!("|---|---|---|---|---|---|---|---|---|---|---|---|");
+    let mut aims = Aims::new();
     for (p, a) in SIZES {
         let opening = measure::times(&measure::checked(Kind::Opening, p, a, 0));
         for (name, kind) in SESSIONS {
-            if kind == Kind::Opening {
-                row(name, p, a, opening, 1);
+            let ratios = if kind == Kind::Opening {
+                row(name, p, a, opening, 1)
             } else {
                 let case = measure::checked(kind, p, a, measure::REQUESTS);
-                row(
-                    name,
-                    p,
-                    a,
-                    without(measure::times(&case), opening),
-                    measure::REQUESTS,
-                );
-            }
+                let times = measure::times(&case).without(opening);
+                row(name, p, a, times, measure::REQUESTS)
+            };
+            aims.note(kind, &format!("{name}, p = {p}, a = {a}"), &ratios);
         }
     }
+    println!();
+    aims.print();
 }
 
-fn without(times: Times, opening: Times) -> Times {
-    Times {
-        library: times.library.saturating_sub(opening.library),
-        model: times.model.saturating_sub(opening.model),
-        tested_once: times.tested_once.saturating_sub(opening.tested_once),
+/// Prints a row, in thousands of requests per second.
+fn row(name: &str, p: usize, a: usize, times: Times, requests: usize) -> Ratios {
+    let run = rate(times.run, requests);
+    let calls = rate(times.calls, requests);
+    let model = rate(times.model, requests);
+    let model_calls = rate(times.model_calls, requests);
+    let tested_once = rate(times.tested_once, requests);
+    println!(
+        "| {name} | {p} | {a} | {} | {} | {} | {:.2} | {:.2} | {} | {:.2} | {} | {:.2} |",
+        thousands(run),
+        thousands(calls),
+        thousands(model),
+        run / model,
+        calls / model,
+        thousands(model_calls),
+        calls / model_calls,
+        thousands(tested_once),
+        run / tested_once
+    );
+    Ratios {
+        run: run / tested_once,
+        calls: calls / model,
     }
 }
 
-fn row(name: &str, p: usize, a: usize, times: Times, requests: usize) {
-    let library = rate(times.library, requests);
-    let model = rate(times.model, requests);
-    let tested_once = rate(times.tested_once, requests);
-    println!(
-        "| {name} | {p} | {a} | {library:.0} | {model:.0} | {:.2} | {tested_once:.0} | {:.2} |",
-        library / model,
-        library / tested_once
-    );
+/// A rate in thousands, as `12,345`.
+fn thousands(rate: f64) -> String {
+    let number = (rate / 1000.0).round() as u64;
+    match number {
+        0..1000 => number.to_string(),
+        _ => format!("{},{:03}", number / 1000, number % 1000),
+    }
 }
 
 fn rate(time: Duration, requests: usize) -> f64 {

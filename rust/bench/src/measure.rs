@@ -1,10 +1,11 @@
 //! The time of a session on each side.
 
 use crate::workload::{self, Kind};
+use differential::case::Case;
 use differential::compare::compare;
 use differential::names::call;
 use differential::need;
-use differential::side::{Case, Side};
+use differential::side::Side;
 use std::time::{Duration, Instant};
 
 /// Requests in a measured session.
@@ -12,18 +13,35 @@ pub const REQUESTS: usize = 2000;
 const REPETITIONS: usize = 15;
 
 /// The sides that are measured, by their names for a script.
-pub const MEASURED: [(&str, Side); 3] = [
+pub const MEASURED: [(&str, Side); 5] = [
     ("library", Side::Library),
+    ("library-calls", Side::LibraryCalls),
     ("model", Side::Model),
+    ("model-calls", Side::ModelCalls),
     ("model-tested-once", Side::ModelTestedOnce),
 ];
 
 /// The median time of a session, by side.
 #[derive(Clone, Copy)]
 pub struct Times {
-    pub library: Duration,
+    pub run: Duration,
+    pub calls: Duration,
     pub model: Duration,
+    pub model_calls: Duration,
     pub tested_once: Duration,
+}
+
+impl Times {
+    /// What is left without the opening.
+    pub fn without(self, opening: Times) -> Times {
+        Times {
+            run: self.run.saturating_sub(opening.run),
+            calls: self.calls.saturating_sub(opening.calls),
+            model: self.model.saturating_sub(opening.model),
+            model_calls: self.model_calls.saturating_sub(opening.model_calls),
+            tested_once: self.tested_once.saturating_sub(opening.tested_once),
+        }
+    }
 }
 
 /// Fresh copies of what a run writes.
@@ -46,13 +64,12 @@ impl Copies {
 /// The measured part: an opening and the requests of a session.
 #[inline(never)]
 pub fn measured(side: Side, case: &Case, copies: &mut Copies) -> usize {
-    side.run_in_place(
-        &case.text,
-        &case.file,
-        &mut copies.medium,
-        &mut copies.session,
-        &mut copies.record,
-    )
+    let written = (
+        &mut copies.medium[..],
+        &mut copies.session[..],
+        &mut copies.record[..],
+    );
+    side.run_in_place(&case.text, &case.file, written)
 }
 
 /// All sides on a session, in turn, so that a slower moment of the machine meets all.
@@ -63,10 +80,12 @@ pub fn times(case: &Case) -> Times {
             times.push(time(side, case));
         }
     }
-    let [library, model, tested_once] = all.map(median);
+    let [run, calls, model, model_calls, tested_once] = all.map(median);
     Times {
-        library,
+        run,
+        calls,
         model,
+        model_calls,
         tested_once,
     }
 }
@@ -90,6 +109,7 @@ pub fn checked(kind: Kind, p: usize, a: usize, requests: usize) -> Case {
     let case = workload::case(kind, p, a, requests);
     let outcome = compare(&case).unwrap_or_else(|difference| panic!("{difference}"));
     assert!(Side::ModelTestedOnce.run(&case) == outcome);
+    assert!(Side::ModelCalls.run(&case) == outcome);
     let exchanges = case.exchanges(&outcome);
     assert!(exchanges
         .iter()

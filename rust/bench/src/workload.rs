@@ -2,11 +2,11 @@
 
 use differential::adapter::phy::Phy;
 use differential::adapter::Adapter;
+use differential::case::Case;
 use differential::names::{code, phy, stp};
 use differential::random::Random;
 use differential::request::passthrough::Passthrough;
 use differential::request::{self, fis};
-use differential::side::Case;
 
 #[derive(Clone, Copy, PartialEq, Eq)]
 pub enum Kind {

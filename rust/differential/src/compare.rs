@@ -1,8 +1,11 @@
-//! One case through both implementations; every number and every byte has to be equal.
+//! One case through both implementations, by the run and by the two calls; every number and every byte has to be equal.
 
-use crate::session;
-use crate::side::{Case, Outcome, Side};
-use crate::wire::{first_difference, word};
+use crate::case::{Case, Exchange, Outcome};
+use crate::names::state;
+use crate::pair::Pair;
+use crate::random::Random;
+use crate::side::{return_code, Side};
+use crate::wire::equal_bytes;
 use std::fmt;
 
 /// Where the two implementations differ.
@@ -23,78 +26,85 @@ impl fmt::Debug for Difference {
     }
 }
 
-/// What both give, if they agree.
+/// What both give, if they agree, and the library's run with its calls.
 pub fn compare(case: &Case) -> Result<Outcome, Difference> {
     let library = Side::Library.run(case);
     let model = Side::Model.run(case);
-    match difference(case, &library, &model) {
-        None => Ok(library),
-        Some(what) => Err(Difference {
+    equal_runs(case, &library, &model)
+        .and_then(|()| by_calls(case, &model))
+        .map_err(|what| Difference {
             seed: case.seed,
             what,
-        }),
-    }
+        })?;
+    Ok(model)
 }
 
-/// The first difference, in words: the opening, the count, the requests in their order, what follows them, the medium.
-fn difference(case: &Case, library: &Outcome, model: &Outcome) -> Option<String> {
+/// The opening, the count, the requests in their order, what follows them, the medium.
+fn equal_runs(case: &Case, library: &Outcome, model: &Outcome) -> Result<(), String> {
+    equal("opening", library.opening, model.opening)?;
+    equal("requests handled", library.handled, model.handled)?;
+    let exchanges = case.exchanges(library).into_iter();
+    for (n, (one, other)) in exchanges.zip(case.exchanges(model)).enumerate() {
+        equal_replies(&one, &other).map_err(|what| format!("{}: {what}", name(n, one.request)))?;
+    }
+    equal_bytes("session", &library.session, &model.session)?;
+    equal_bytes("record", &library.record, &model.record)?;
+    equal_bytes("medium", &library.medium, &model.medium)
+}
+
+fn equal_replies(library: &Exchange, model: &Exchange) -> Result<(), String> {
+    equal("call's number", library.number, model.number)?;
+    equal("return code", library.code, model.code)?;
+    equal_bytes("reply", library.reply, model.reply)
+}
+
+fn equal<T: PartialEq + fmt::Display>(name: &str, library: T, model: T) -> Result<(), String> {
     if library == model {
-        return None;
+        return Ok(());
     }
-    if library.opening != model.opening {
-        return Some(format!(
-            "opening: library {}, model {}",
-            library.opening, model.opening
-        ));
-    }
-    if library.handled != model.handled {
-        return Some(format!(
-            "requests handled: library {}, model {}",
-            library.handled, model.handled
-        ));
-    }
-    in_requests(case, library, model)
-        .or_else(|| in_bytes("session", &library.session, &model.session))
-        .or_else(|| in_bytes("record", &library.record, &model.record))
-        .or_else(|| in_bytes("medium", &library.medium, &model.medium))
+    Err(format!("{name}: library {library}, model {model}"))
 }
 
-fn in_requests(case: &Case, library: &Outcome, model: &Outcome) -> Option<String> {
-    let requests = session::split(&case.session, library.handled);
-    let libraries = session::split(&library.session, library.handled);
-    let models = session::split(&model.session, model.handled);
-    (0..requests.len()).find_map(|n| {
-        in_record(n, library, model)
-            .or_else(|| in_bytes("reply", libraries.get(n)?, models.get(n)?))
-            .map(|what| format!("request {} ({}): {what}", n + 1, beginning(requests[n])))
-    })
+/// The same opening and requests by the two calls, one at a time, over a state of other bytes: after each both sides are equal, and the
+/// replies, the state and the medium are those of the run, which both sides gave.
+fn by_calls(case: &Case, run: &Outcome) -> Result<(), String> {
+    let before = Random::new(case.seed).bytes(state::SIZE);
+    let mut pair = Pair::of(&before, &case.medium);
+    let number = pair
+        .open(&case.text, &case.file)
+        .map_err(|what| format!("opening by call: {what}"))?;
+    equal("opening by call and in the run", number, run.opening)?;
+    for (n, in_run) in case.exchanges(run).iter().enumerate() {
+        call(&mut pair, in_run)
+            .map_err(|what| format!("{}, by call: {what}", name(n, in_run.request)))?;
+    }
+    let state = run.state.as_deref().unwrap_or_default();
+    equal_bytes("state by calls and of the run", pair.state(), state)?;
+    equal_bytes("medium by calls and of the run", pair.medium(), &run.medium)
 }
 
-fn in_record(n: usize, library: &Outcome, model: &Outcome) -> Option<String> {
-    let entry = |outcome: &Outcome| {
-        (
-            word(&outcome.record, 8 * n),
-            word(&outcome.record, 8 * n + 4),
-        )
+fn call(pair: &mut Pair, in_run: &Exchange) -> Result<(), String> {
+    let reply = pair.request(in_run.request)?;
+    let by_call = Exchange {
+        request: in_run.request,
+        number: reply.number,
+        code: return_code(reply.number, &reply.buffer),
+        reply: &reply.buffer,
     };
-    let (left, right) = (entry(library), entry(model));
-    (left != right).then(|| format!("call and return code: library {left:?}, model {right:?}"))
+    equal_replies(&by_call, in_run).map_err(|what| format!("not as in the run: {what}"))
 }
 
-fn in_bytes(name: &str, library: &[u8], model: &[u8]) -> Option<String> {
-    let at = first_difference(library, model)?;
-    let (left, right) = (library.get(at), model.get(at));
-    Some(format!(
-        "{name}, byte {at}: library {left:02X?}, model {right:02X?}"
-    ))
-}
-
-/// The header and the first bytes of the body, to find the request again.
-fn beginning(request: &[u8]) -> String {
+/// A request's number, its header and the first bytes of its body, to find it again.
+fn name(n: usize, request: &[u8]) -> String {
     let shown: Vec<String> = request
         .iter()
         .take(72)
         .map(|byte| format!("{byte:02X}"))
         .collect();
-    format!("{} bytes: {}", request.len(), shown.join(""))
+    format!(
+        "request {} ({} bytes: {})",
+        n + 1,
+        request.len(),
+        shown.join("")
+    )
 }

@@ -1,9 +1,9 @@
 //! How often each number, return code and command was met; and which of those that document 01 knows were not.
 
+use crate::case::{Case, Exchange, Outcome};
 use crate::names::{body_size, call, code, header, status, stp};
 use crate::need;
 use crate::request::fis;
-use crate::side::{Case, Exchange, Outcome};
 use std::collections::BTreeMap;
 use std::fmt;
 
@@ -220,7 +220,8 @@ impl fmt::Display for Coverage {
     }
 }
 
-fn counts(met: &BTreeMap<u32, u64>) -> String {
+/// Each number with how often it was met.
+pub fn counts(met: &BTreeMap<u32, u64>) -> String {
     let shown: Vec<String> = met
         .iter()
         .map(|(number, count)| format!("{number}: {count}"))

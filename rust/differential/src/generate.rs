@@ -1,11 +1,12 @@
 //! Whole cases from a seed.
 
+use crate::adapter::form::Form;
 use crate::adapter::{damage, Adapter};
+use crate::case::Case;
 use crate::medium;
 use crate::random::Random;
 use crate::request;
 use crate::session;
-use crate::side::Case;
 use crate::text::{self, FULL, LIMITED, NONE, RESTRICTED};
 
 /// An opening: what the two calls start from.
@@ -49,8 +50,9 @@ pub fn damaged_opening(random: &mut Random, adapter: &Adapter) -> Opening {
 }
 
 fn damaged_file(random: &mut Random, adapter: &Adapter) -> Vec<u8> {
+    let all = damage::all(Form::File);
     loop {
-        let damage = &damage::ALL[random.below(damage::ALL.len())];
+        let damage = random.pick(&all);
         let file = if random.one_in(4) {
             damage.unsealed(random, adapter)
         } else {

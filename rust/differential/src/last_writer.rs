@@ -2,10 +2,10 @@
 //! every programmed rate is after a run.
 
 use crate::adapter::phy_at;
-use crate::names::{call, code, header, phy, stp, DISK, SECTOR};
+use crate::case::{Case, Exchange, Outcome};
+use crate::names::{call, code, header, phy, state, stp, DISK, SECTOR};
 use crate::need;
 use crate::request::fis;
-use crate::side::{Case, Exchange, Outcome};
 use crate::wire::first_difference;
 
 /// What the last writers left.
@@ -69,63 +69,42 @@ fn selected(file: &[u8], body: &[u8]) -> usize {
 }
 
 /// The programmed minimum and maximum of a PHY_ENTITY.
-pub fn programmed(entity: &[u8]) -> (u8, u8) {
+fn programmed(entity: &[u8]) -> (u8, u8) {
     (entity[phy::MINIMUM] >> 4, entity[phy::MAXIMUM] >> 4)
 }
 
-/// The medium after a run is what the last writers left; after a refused opening, what it was.
-pub fn check_medium(case: &Case, outcome: &Outcome) -> Result<(), String> {
-    let expected = if outcome.opening == call::ACCEPTED {
-        Written::after(&case.file, &case.medium, &case.exchanges(outcome)).medium
-    } else {
-        case.medium.clone()
-    };
-    match first_difference(&expected, &outcome.medium) {
-        None => Ok(()),
-        Some(at) => Err(format!("medium, byte {at}")),
+/// The medium after a run, and the programmed rates of its state where the side shows it, are what the last writers left. After a refused
+/// opening the medium is what it was, and the state is zero. Gives the number of phys whose rates were compared.
+pub fn check(case: &Case, outcome: &Outcome) -> Result<usize, String> {
+    if outcome.opening != call::ACCEPTED {
+        return check_refused(case, outcome);
     }
-}
-
-/// The programmed rates that the reply to get phy info, the last request of the run, shows are what the last writers left. Gives
-/// the number of phys that were compared: none if the reply was not granted.
-pub fn check_rates(case: &Case, outcome: &Outcome) -> Result<usize, String> {
-    let exchanges = case.exchanges(outcome);
-    let Some(last) = exchanges.last().filter(|last| need::granted(last)) else {
+    let written = Written::after(&case.file, &case.medium, &case.exchanges(outcome));
+    equal_media(&written.medium, &outcome.medium)?;
+    let Some(state) = &outcome.state else {
         return Ok(0);
     };
-    let expected = Written::after(&case.file, &case.medium, &exchanges).rates;
-    for (n, rates) in expected.iter().enumerate() {
-        if programmed(&last.reply[header::SIZE + 4 + phy::ENTITY_SIZE * n..]) != *rates {
+    for (n, rates) in written.rates.iter().enumerate() {
+        if programmed(&state[state::phy_at(n)..]) != *rates {
             return Err(format!("programmed rates of phy {n}"));
         }
     }
-    Ok(expected.len())
+    Ok(written.rates.len())
 }
 
-/// The same by the model's state, which no level hides.
-pub fn check_model_rates(
-    case: &Case,
-    outcome: &Outcome,
-    requests: &[Vec<u8>],
-) -> Result<(), String> {
-    let (number, mut state) = model::open(&case.text, &case.file, &case.medium);
-    let mut medium = case.medium.clone();
-    for request in requests {
-        model::request(&mut state, &mut medium, &mut request.clone());
+fn check_refused(case: &Case, outcome: &Outcome) -> Result<usize, String> {
+    equal_media(&case.medium, &outcome.medium)?;
+    match &outcome.state {
+        Some(state) if *state != [0; state::SIZE] => {
+            Err("a refused opening left a state".to_string())
+        }
+        _ => Ok(0),
     }
-    if number != call::ACCEPTED {
-        let zero = state.p == 0 && medium == case.medium;
-        return zero
-            .then_some(())
-            .ok_or_else(|| "a refused opening left phys".to_string());
+}
+
+fn equal_media(expected: &[u8], medium: &[u8]) -> Result<(), String> {
+    match first_difference(expected, medium) {
+        None => Ok(()),
+        Some(at) => Err(format!("medium, byte {at}")),
     }
-    let expected = Written::after(&case.file, &case.medium, &case.exchanges(outcome)).rates;
-    let held: Vec<(u8, u8)> = state
-        .live_phys()
-        .iter()
-        .map(|phy| programmed(&phy.entity))
-        .collect();
-    (held == expected)
-        .then_some(())
-        .ok_or_else(|| "programmed rates of the model's state".to_string())
 }

@@ -1,7 +1,8 @@
-//! Compares the proved library with the model on generated openings and sessions, and tests both against the claims of
-//! document 01 about whole runs. Every input comes from a seed.
+//! Compares the proved library with the model on generated openings, states, requests and sessions, and tests both against the
+//! claims of document 01 about whole runs. Every input comes from a seed.
 
 pub mod adapter;
+pub mod case;
 pub mod compare;
 pub mod coverage;
 pub mod generate;
@@ -9,11 +10,12 @@ pub mod last_writer;
 pub mod medium;
 pub mod names;
 pub mod need;
-pub mod probe;
+pub mod pair;
 pub mod random;
 pub mod request;
 pub mod session;
 pub mod side;
+pub mod state;
 pub mod sweep;
 pub mod text;
 pub mod two_runs;

@@ -21,7 +21,7 @@ pub mod call {
         SHARED_ROW,
         MEDIUM_LENGTH,
     ];
-    /// Every number of a request, in a run.
+    /// Every number of a request, in a run; a call on any state knows 106 too.
     pub const REQUESTS: [u32; 3] = [ACCEPTED, BUFFER, STATE];
 }
 
@@ -86,7 +86,7 @@ pub mod stp {
     pub const NOT_GIVEN: u8 = 0xFF;
 }
 
-/// A phy's block.
+/// A phy's bytes, in its block of the file and in a state.
 pub mod phy {
     pub const IDENTIFIER: usize = 20;
     pub const CLASS: usize = 21;
@@ -115,6 +115,26 @@ pub mod phy {
     pub const FAILED: u8 = 2;
 }
 
+/// A state.
+pub mod state {
+    use super::{phy, DRIVER_SIZE, ROW_SIZE};
+    pub const SIZE: usize = 4785;
+    pub const LEVEL: usize = 0;
+    pub const PHY_COUNT: usize = 1;
+    pub const ROW_COUNT: usize = 2;
+    pub const DRIVER: usize = 3;
+    pub const PHYS: usize = DRIVER + DRIVER_SIZE;
+    pub const ROWS: usize = PHYS + 32 * phy::SIZE;
+    /// Where phy n starts.
+    pub fn phy_at(n: usize) -> usize {
+        PHYS + phy::SIZE * n
+    }
+    /// Where row i starts.
+    pub fn row_at(i: usize) -> usize {
+        ROWS + ROW_SIZE * i
+    }
+}
+
 pub const BLOCK: usize = 512;
 pub const DRIVER_SIZE: usize = 174;
 pub const ROW_SIZE: usize = 20;
@@ -122,8 +142,8 @@ pub const ROWS_PER_BLOCK: usize = 25;
 pub const SECTOR: usize = 512;
 pub const SECTORS: usize = 16;
 pub const DISK: usize = SECTOR * SECTORS;
-/// The longest request of a session.
-pub const LONGEST: usize = 32_768;
+/// The longest request that the program takes; the library takes longer ones.
+pub const PROGRAM_LONGEST: usize = 32_768;
 
 /// The signature of a code's header.
 pub fn signature(control: u32) -> [u8; 8] {
@@ -144,5 +164,17 @@ pub fn body_size(control: u32) -> Option<usize> {
         code::STP_PASSTHRU => Some(stp::DATA),
         code::SATA_SIGNATURE => Some(24),
         _ => None,
+    }
+}
+
+#[cfg(test)]
+mod tests {
+    use super::state::*;
+
+    #[test]
+    fn a_state_has_these_places() {
+        assert_eq!((PHYS, ROWS), (177, 3505));
+        assert_eq!(row_at(64), SIZE);
+        assert_eq!((library::STATE_SIZE, model::STATE_SIZE), (SIZE, SIZE));
     }
 }

@@ -1,8 +1,8 @@
 //! Which requests document 01 calls denied, and which granted.
 
+use crate::case::Exchange;
 use crate::names::{body_size, call, code, header, signature, status, stp};
 use crate::request::fis;
-use crate::side::Exchange;
 use crate::text::{FULL, LIMITED, RESTRICTED};
 use crate::wire::word;
 

@@ -1,6 +1,6 @@
 //! Sessions: each request a 4-byte length, then its bytes.
 
-use crate::names::LONGEST;
+use crate::names::PROGRAM_LONGEST;
 use crate::random::Random;
 use crate::wire::word;
 
@@ -18,7 +18,7 @@ pub fn next(session: &[u8], at: usize) -> Option<std::ops::Range<usize>> {
     let start = at.checked_add(4).filter(|&start| start <= session.len())?;
     let length = word(session, at) as usize;
     let rest = session.len() - start;
-    (length <= LONGEST && length <= rest).then_some(start..start + length)
+    (length <= rest).then_some(start..start + length)
 }
 
 /// The first requests of a session.
@@ -35,21 +35,21 @@ pub fn split(session: &[u8], count: usize) -> Vec<&[u8]> {
     requests
 }
 
-/// An end that no request follows: none, a short length, a short request, or an oversized one.
+/// An end that no request follows: none, a short length, or a short request.
 pub fn end(random: &mut Random) -> Vec<u8> {
     match random.below(8) {
         0 => random.bytes(3),
-        1 => oversized(LONGEST as u32 + 1, LONGEST + 1),
-        2 => oversized(u32::MAX, 100),
-        3 => oversized(0x8000_0000, 0),
-        4 => oversized(LONGEST as u32, LONGEST - 1),
-        5 => oversized(28, 27),
+        1 => cut(PROGRAM_LONGEST as u32 + 1, PROGRAM_LONGEST),
+        2 => cut(u32::MAX, 100),
+        3 => cut(0x8000_0000, 0),
+        4 => cut(PROGRAM_LONGEST as u32, PROGRAM_LONGEST - 1),
+        5 => cut(28, 27),
         _ => Vec::new(),
     }
 }
 
 /// A length, and so many bytes behind it.
-pub fn oversized(length: u32, bytes: usize) -> Vec<u8> {
+pub fn cut(length: u32, bytes: usize) -> Vec<u8> {
     let mut end = length.to_le_bytes().to_vec();
     end.resize(4 + bytes, 0x5A);
     end
@@ -61,7 +61,7 @@ mod tests {
 
     #[test]
     fn a_session_comes_apart_as_it_was_joined() {
-        let requests = vec![vec![1, 2, 3], vec![], vec![7; LONGEST]];
+        let requests = vec![vec![1, 2, 3], vec![], vec![7; 2 * PROGRAM_LONGEST]];
         let mut session = join(&requests);
         session.extend([9, 0, 0]);
         assert_eq!(split(&session, 10), requests);

@@ -1,124 +1,160 @@
-//! The implementations behind one function: a case goes in, what came of it comes out.
+//! The implementations behind the same functions: an opening, a request, and a run.
 
-use crate::names::{call, header, status};
+use crate::case::{Case, Outcome};
+use crate::names::{call, header, state, status};
 use crate::session;
 use crate::wire::{put_word, word};
-
-/// Everything that a run gets.
-#[derive(Clone)]
-pub struct Case {
-    pub seed: u64,
-    pub text: Vec<u8>,
-    pub file: Vec<u8>,
-    pub medium: Vec<u8>,
-    pub session: Vec<u8>,
-    /// The record as it is before.
-    pub record: Vec<u8>,
-}
-
-/// Everything that a run gives.
-#[derive(Clone, PartialEq, Eq)]
-pub struct Outcome {
-    pub opening: u32,
-    pub handled: usize,
-    pub medium: Vec<u8>,
-    pub session: Vec<u8>,
-    pub record: Vec<u8>,
-}
-
-/// A request as sent, and its reply: the call's number, the recorded return code and the whole buffer.
-pub struct Exchange<'a> {
-    pub request: &'a [u8],
-    pub number: u32,
-    pub code: u32,
-    pub reply: &'a [u8],
-}
+use model::State;
 
 #[derive(Clone, Copy, Debug, PartialEq, Eq)]
 pub enum Side {
+    /// The library; a run is its run.
     Library,
+    /// The library's two calls; a run is an opening, then its requests one at a time.
+    LibraryCalls,
+    /// The model, which holds its state as a value of its own.
     Model,
+    /// The model over a state as bytes, which it reads and writes at each call, as the library's calls do.
+    ModelCalls,
     /// The model with state and medium length tested before the first request of a run, not at each.
     ModelTestedOnce,
 }
 
-/// The two implementations.
-pub const SIDES: [Side; 2] = [Side::Library, Side::Model];
+/// Each implementation, the library's in both ways.
+pub const SIDES: [Side; 3] = [Side::Library, Side::LibraryCalls, Side::Model];
+
+/// The two implementations of the calls.
+pub const CALLS: [Side; 2] = [Side::Library, Side::Model];
 
 impl Side {
-    pub fn open(self, text: &[u8], file: &[u8], medium: &[u8]) -> u32 {
+    /// Opens an adapter: the call's number, and the state as the call leaves it.
+    pub fn open(self, text: &[u8], file: &[u8], medium: &[u8], state: &mut [u8]) -> u32 {
         match self {
-            Side::Library => library::open(text, file, medium),
-            Side::Model | Side::ModelTestedOnce => model::open(text, file, medium).0,
+            Side::Library | Side::LibraryCalls => library::open(text, file, medium, state),
+            _ => open_model(text, file, medium, state),
+        }
+    }
+
+    /// The number of an opening alone.
+    pub fn opening(self, text: &[u8], file: &[u8], medium: &[u8]) -> u32 {
+        self.open(text, file, medium, &mut [0; state::SIZE])
+    }
+
+    /// Handles one request: the call's number; state, medium and buffer as the call leaves them.
+    pub fn request(self, state: &mut [u8], medium: &mut [u8], buffer: &mut [u8]) -> u32 {
+        match self {
+            Side::Library | Side::LibraryCalls => library::request(state, medium, buffer),
+            _ => request_model(state, medium, buffer),
         }
     }
 
     pub fn run(self, case: &Case) -> Outcome {
-        let opening = self.open(&case.text, &case.file, &case.medium);
+        let (text, file) = (&case.text, &case.file);
         let mut medium = case.medium.clone();
         let mut session = case.session.clone();
         let mut record = case.record.clone();
-        let handled = self.run_in_place(
-            &case.text,
-            &case.file,
-            &mut medium,
-            &mut session,
-            &mut record,
-        );
+        let written = (&mut medium[..], &mut session[..], &mut record[..]);
+        let of_model = |state: &State| Some(state.to_bytes().to_vec());
+        let (handled, state) = match self {
+            Side::Library => (run_library(text, file, written), None),
+            Side::LibraryCalls | Side::ModelCalls => {
+                run_calls(self, text, file, written, |state| Some(state.to_vec()))
+            }
+            Side::Model => run_model(text, file, written, of_model),
+            Side::ModelTestedOnce => run_tested_once(text, file, written, of_model),
+        };
         Outcome {
-            opening,
+            opening: self.opening(text, file, &case.medium),
             handled,
             medium,
             session,
             record,
+            state,
         }
     }
 
-    /// The library's `run`, or the same with the model.
-    pub fn run_in_place(
-        self,
-        text: &[u8],
-        file: &[u8],
-        medium: &mut [u8],
-        session: &mut [u8],
-        record: &mut [u8],
-    ) -> usize {
+    /// A run alone, to be measured: the number of requests handled.
+    pub fn run_in_place(self, text: &[u8], file: &[u8], written: Written) -> usize {
         match self {
-            Side::Library => library::run(text, file, medium, session, record),
-            Side::Model => run_model(text, file, medium, session, record),
-            Side::ModelTestedOnce => run_tested_once(text, file, medium, session, record),
+            Side::Library => run_library(text, file, written),
+            Side::LibraryCalls | Side::ModelCalls => run_calls(self, text, file, written, |_| ()).0,
+            Side::Model => run_model(text, file, written, |_| ()).0,
+            Side::ModelTestedOnce => run_tested_once(text, file, written, |_| ()).0,
         }
     }
 }
 
-fn run_model(
+/// What a run writes: medium, session and record.
+pub type Written<'a> = (&'a mut [u8], &'a mut [u8], &'a mut [u8]);
+
+/// "a state of another length is 107", and stays; a refused opening leaves the zero state.
+fn open_model(text: &[u8], file: &[u8], medium: &[u8], state: &mut [u8]) -> u32 {
+    let Ok(state) = <&mut [u8; state::SIZE]>::try_from(state) else {
+        return call::STATE;
+    };
+    let (number, opened) = model::open(text, file, medium);
+    *state = opened.to_bytes();
+    number
+}
+
+fn request_model(state: &mut [u8], medium: &mut [u8], buffer: &mut [u8]) -> u32 {
+    let Ok(state) = <&mut [u8; state::SIZE]>::try_from(state) else {
+        return call::STATE;
+    };
+    let mut held = State::from_bytes(state);
+    let number = model::request(&mut held, medium, buffer);
+    *state = held.to_bytes();
+    number
+}
+
+fn run_library(text: &[u8], file: &[u8], (medium, session, record): Written) -> usize {
+    library::run(text, file, medium, session, record)
+}
+
+/// An opening, and the requests one at a time; and what is asked of the state at the end.
+fn run_calls<T>(
+    side: Side,
     text: &[u8],
     file: &[u8],
-    medium: &mut [u8],
-    session: &mut [u8],
-    record: &mut [u8],
-) -> usize {
+    (medium, session, record): Written,
+    end: impl FnOnce(&[u8]) -> T,
+) -> (usize, T) {
+    let mut state = [0; state::SIZE];
+    side.open(text, file, medium, &mut state);
+    let handled = each_request(session, record, |buffer| {
+        side.request(&mut state, medium, buffer)
+    });
+    (handled, end(&state))
+}
+
+fn run_model<T>(
+    text: &[u8],
+    file: &[u8],
+    (medium, session, record): Written,
+    end: impl FnOnce(&State) -> T,
+) -> (usize, T) {
     let (_, mut state) = model::open(text, file, medium);
-    each_request(session, record, |buffer| {
+    let handled = each_request(session, record, |buffer| {
         model::request(&mut state, medium, buffer)
-    })
+    });
+    (handled, end(&state))
 }
 
 /// The same run; where a test fails, each request gets its number.
-fn run_tested_once(
+fn run_tested_once<T>(
     text: &[u8],
     file: &[u8],
-    medium: &mut [u8],
-    session: &mut [u8],
-    record: &mut [u8],
-) -> usize {
+    (medium, session, record): Written,
+    end: impl FnOnce(&State) -> T,
+) -> (usize, T) {
     let (_, mut state) = model::open(text, file, medium);
-    match model::tested(&state, medium) {
+    let handled = match model::tested(&state, medium) {
         Ok(()) => each_request(session, record, |buffer| {
             model::answer(&mut state, medium, buffer)
         }),
         Err(number) => each_request(session, record, |_| number),
-    }
+    };
+    (handled, end(&state))
 }
 
 /// The requests of a session in their order, as far as the record has room: the number of those handled.
@@ -143,47 +179,11 @@ fn each_request(
     handled
 }
 
-fn return_code(number: u32, buffer: &[u8]) -> u32 {
+/// What the record holds of a reply.
+pub fn return_code(number: u32, buffer: &[u8]) -> u32 {
     if number == call::ACCEPTED {
         word(buffer, header::RETURN_CODE)
     } else {
         status::NONE
-    }
-}
-
-impl Case {
-    /// A case whose record has room for every request.
-    pub fn of_requests(
-        seed: u64,
-        text: &[u8],
-        file: &[u8],
-        medium: &[u8],
-        requests: &[Vec<u8>],
-    ) -> Self {
-        Case {
-            seed,
-            text: text.to_vec(),
-            file: file.to_vec(),
-            medium: medium.to_vec(),
-            session: session::join(requests),
-            record: vec![0x5A; 8 * requests.len()],
-        }
-    }
-
-    /// The requests that were handled, with their replies.
-    pub fn exchanges<'a>(&'a self, outcome: &'a Outcome) -> Vec<Exchange<'a>> {
-        let requests = session::split(&self.session, outcome.handled);
-        let replies = session::split(&outcome.session, outcome.handled);
-        let pairs = requests.into_iter().zip(replies);
-        let records = outcome.record.chunks_exact(8);
-        pairs
-            .zip(records)
-            .map(|((request, reply), record)| Exchange {
-                request,
-                number: word(record, 0),
-                code: word(record, 4),
-                reply,
-            })
-            .collect()
     }
 }

@@ -1,13 +1,12 @@
 //! "Two runs": the higher run's list is the lower's without the requests denied there. The replies to the others, the media and
 //! the states but the level are then equal.
 
-use crate::adapter::Adapter;
-use crate::names::{call, header, status};
+use crate::case::{Case, Exchange, Outcome};
+use crate::names::{call, header, state, status};
 use crate::need;
-use crate::probe;
 use crate::random::Random;
-use crate::side::{Case, Exchange, Outcome, Side};
-use crate::text::{self, NONE};
+use crate::side::Side;
+use crate::text;
 use crate::wire::put_word;
 
 /// A level, and a text that gives it.
@@ -28,7 +27,6 @@ impl Level {
 /// What both runs start with, and the lower run's list.
 pub struct Start<'a> {
     pub seed: u64,
-    pub adapter: &'a Adapter,
     pub file: &'a [u8],
     pub medium: &'a [u8],
     pub requests: &'a [Vec<u8>],
@@ -59,33 +57,23 @@ impl Run {
     }
 }
 
-/// Checks the claim on one side. What the state holds is seen by probing requests at the end of both runs. Gives the number of
-/// denied requests.
+/// Checks the claim on whole runs of one side; on the states too, where the side shows them. Gives the number of denied requests.
 pub fn check(side: Side, start: &Start, low: &Level, high: &Level) -> Result<usize, String> {
-    let probes = probe::requests(start.adapter);
-    let lower = Run::of(side, start, low, &[start.requests, &probes[..]].concat())?;
+    let lower = Run::of(side, start, low, start.requests)?;
     let answers = lower.exchanges();
-    let (listed, lower_probes) = answers.split_at(start.requests.len());
-    let (denied, others): (Vec<&Exchange>, Vec<&Exchange>) = listed
+    let (denied, others): (Vec<&Exchange>, Vec<&Exchange>) = answers
         .iter()
         .partition(|one| lower.accepted() && need::denied(low.number, one.request));
     denied.iter().try_for_each(|one| only_return_code(one))?;
 
-    let kept = others.iter().map(|one| one.request.to_vec());
-    let list: Vec<Vec<u8>> = kept.chain(probes.iter().cloned()).collect();
+    let list: Vec<Vec<u8>> = others.iter().map(|one| one.request.to_vec()).collect();
     let higher = Run::of(side, start, high, &list)?;
-    let higher_answers = higher.exchanges();
-    let (same, higher_probes) = higher_answers.split_at(others.len());
-
-    equal_ends(&lower.outcome, &higher.outcome)?;
-    equal("reply", others, same)?;
-    if low.number > NONE || !lower.accepted() {
-        equal("probe", lower_probes, higher_probes)?;
-    } else {
-        // None denies the probes too, and all that could change the state: the higher run's state is the file's.
-        let untouched = Run::of(side, start, high, &probes)?;
-        equal("probe", &untouched.exchanges(), higher_probes)?;
+    for (n, (one, other)) in others.iter().zip(higher.exchanges()).enumerate() {
+        if one.number != other.number || one.code != other.code || one.reply != other.reply {
+            return Err(format!("reply {} differs", n + 1));
+        }
     }
+    equal_ends(&lower.outcome, &higher.outcome)?;
     Ok(denied.len())
 }
 
@@ -96,21 +84,15 @@ fn equal_ends(lower: &Outcome, higher: &Outcome) -> Result<(), String> {
     if lower.medium != higher.medium {
         return Err("the media differ".to_string());
     }
+    if lower.state.as_deref().map(but_level) != higher.state.as_deref().map(but_level) {
+        return Err("the states differ".to_string());
+    }
     Ok(())
 }
 
-/// The replies of two lists of the same length are equal.
-fn equal<'a>(
-    name: &str,
-    lower: impl IntoIterator<Item = &'a Exchange<'a>>,
-    higher: &[Exchange],
-) -> Result<(), String> {
-    for (n, (one, other)) in lower.into_iter().zip(higher).enumerate() {
-        if one.number != other.number || one.code != other.code || one.reply != other.reply {
-            return Err(format!("{name} {} differs", n + 1));
-        }
-    }
-    Ok(())
+/// "Tables, counters and disks are every field of the state but the level".
+fn but_level(bytes: &[u8]) -> &[u8] {
+    &bytes[state::LEVEL + 1..]
 }
 
 /// A denied request is answered with 4, and nothing else of its buffer changes.
@@ -123,32 +105,77 @@ pub fn only_return_code(exchange: &Exchange) -> Result<(), String> {
         .ok_or_else(|| "a denied request gets more than its return code".to_string())
 }
 
-/// The same claim on the model, by its states; and its own `denied` is document 01's.
-pub fn check_states(start: &Start, low: &Level, high: &Level) -> Result<(), String> {
-    let (number, mut lower) = model::open(&low.text, start.file, start.medium);
-    let (_, mut higher) = model::open(&high.text, start.file, start.medium);
-    let mut lower_medium = start.medium.to_vec();
-    let mut higher_medium = start.medium.to_vec();
+/// A run by the two calls, as far as it has come.
+struct Caller {
+    side: Side,
+    opening: u32,
+    state: Vec<u8>,
+    medium: Vec<u8>,
+}
+
+impl Caller {
+    fn open(side: Side, start: &Start, level: &Level) -> Self {
+        let mut state = vec![0x5A; state::SIZE];
+        let opening = side.open(&level.text, start.file, start.medium, &mut state);
+        Caller {
+            side,
+            opening,
+            state,
+            medium: start.medium.to_vec(),
+        }
+    }
+
+    fn request(&mut self, request: &[u8]) -> (u32, Vec<u8>) {
+        let mut reply = request.to_vec();
+        let number = self
+            .side
+            .request(&mut self.state, &mut self.medium, &mut reply);
+        (number, reply)
+    }
+
+    /// The level stays the run's own; after a refused opening it is 0.
+    fn keeps(&self, level: &Level) -> bool {
+        let own = if self.opening == call::ACCEPTED {
+            level.number
+        } else {
+            0
+        };
+        self.state[state::LEVEL] == own
+    }
+}
+
+/// The same claim by the two calls, after each request and not at the end alone; and neither run's level changes.
+pub fn check_each(side: Side, start: &Start, low: &Level, high: &Level) -> Result<(), String> {
+    let mut lower = Caller::open(side, start, low);
+    let mut higher = Caller::open(side, start, high);
+    let accepted = lower.opening == call::ACCEPTED;
     for (n, request) in start.requests.iter().enumerate() {
-        let denied = model::denied(&lower, &lower_medium, request);
-        if denied != (number == call::ACCEPTED && need::denied(low.number, request)) {
-            return Err(format!("request {}: the model's denied", n + 1));
+        let reply = lower.request(request);
+        let denied = accepted && need::denied(low.number, request);
+        if !denied && higher.request(request) != reply {
+            return Err(format!("request {}: the replies differ", n + 1));
         }
-        let mut reply = request.clone();
-        let answer = model::request(&mut lower, &mut lower_medium, &mut reply);
-        if !denied {
-            let mut other = request.clone();
-            let same = model::request(&mut higher, &mut higher_medium, &mut other) == answer;
-            if !same || reply != other {
-                return Err(format!("request {}: the replies differ", n + 1));
-            }
-        }
-        let level = higher.level;
-        higher.level = lower.level;
-        if lower != higher || lower_medium != higher_medium {
+        let same = but_level(&lower.state) == but_level(&higher.state);
+        if !same || lower.medium != higher.medium {
             return Err(format!("request {}: the states or the media differ", n + 1));
         }
-        higher.level = level;
+        if !lower.keeps(low) || !higher.keeps(high) {
+            return Err(format!("request {}: a level changes", n + 1));
+        }
+    }
+    Ok(())
+}
+
+/// The model's own `denied` is document 01's.
+pub fn check_denied(start: &Start, level: &Level) -> Result<(), String> {
+    let (number, mut state) = model::open(&level.text, start.file, start.medium);
+    let mut medium = start.medium.to_vec();
+    for (n, request) in start.requests.iter().enumerate() {
+        let denied = number == call::ACCEPTED && need::denied(level.number, request);
+        if model::denied(&state, &medium, request) != denied {
+            return Err(format!("request {}: the model's denied", n + 1));
+        }
+        model::request(&mut state, &mut medium, &mut request.clone());
     }
     Ok(())
 }

@@ -1,19 +1,36 @@
-//! Openings of both implementations, with the numbers that document 01 gives them.
+//! Openings of both implementations: the numbers that document 01 gives them, and the states that they leave.
 
-use differential::adapter::damage::{Damage, ALL};
+use differential::adapter::damage::{self, Damage};
+use differential::adapter::form::Form;
 use differential::adapter::{seal, Adapter};
 use differential::generate;
-use differential::names::call;
+use differential::names::{call, state};
+use differential::pair::Pair;
 use differential::random::Random;
-use differential::side::{Side, SIDES};
+use differential::side::{Side, CALLS};
 use differential::{medium, sweep, text};
 
-/// Both sides open with this number.
+/// Both sides open with this number, over a state of other bytes; a refusal leaves the zero state.
 fn assert_number(what: &str, number: u32, text: &[u8], file: &[u8], medium: &[u8]) {
-    for side in SIDES {
-        let given = side.open(text, file, medium);
+    for side in CALLS {
+        let mut state = [0xA5; state::SIZE];
+        let given = side.open(text, file, medium, &mut state);
         assert_eq!(given, number, "{what}, {side:?}");
+        assert_eq!(
+            state == [0; state::SIZE],
+            number != call::ACCEPTED,
+            "{what}, {side:?}"
+        );
     }
+}
+
+/// What both sides open with, over a state of other bytes, and the state that both leave.
+fn opened(what: &str, text: &[u8], file: &[u8], medium: &[u8]) -> (u32, Vec<u8>) {
+    let mut pair = Pair::of(&[0xA5; state::SIZE], medium);
+    let number = pair
+        .open(text, file)
+        .unwrap_or_else(|difference| panic!("{what}: {difference}"));
+    (number, pair.state().to_vec())
 }
 
 /// An adapter that has a place for the damage, and its file.
@@ -34,7 +51,58 @@ fn sound_files_of_every_size_open() {
         for a in [0, 1, 24, 25, 26, 50, 51, 64] {
             let adapter = Adapter::of_counts(random, p, a);
             let medium = vec![0; adapter.medium_length()];
-            assert_number("sound", call::ACCEPTED, b"", &adapter.file(), &medium);
+            let level = random.pick(&text::LEVELS);
+            let text = text::of_level(random, level);
+            let (number, state) = opened("sound", &text, &adapter.file(), &medium);
+            assert_eq!(number, call::ACCEPTED);
+            assert_eq!(state, adapter.state(level), "p {p}, a {a}");
+        }
+    }
+}
+
+/// What the state was before makes no difference: neither zeros, nor another adapter, nor bytes that are no state.
+#[test]
+fn an_opening_does_not_look_at_the_state() {
+    let random = &mut Random::new(9);
+    for _ in 0..100 {
+        let adapter = Adapter::sound(random);
+        let opening = generate::sound_opening(random, &adapter);
+        let expected = Side::Model.opening(&opening.text, &opening.file, &opening.medium);
+        let befores = [
+            vec![0; state::SIZE],
+            vec![0xFF; state::SIZE],
+            Adapter::of_counts(random, 32, 64).state(3),
+            random.bytes(state::SIZE),
+        ];
+        let mut afters = befores.map(|before| {
+            let mut pair = Pair::of(&before, &opening.medium);
+            assert_eq!(pair.open(&opening.text, &opening.file), Ok(expected));
+            pair.state().to_vec()
+        });
+        let level = afters[0][state::LEVEL];
+        assert!(afters
+            .iter_mut()
+            .all(|after| *after == adapter.state(level)));
+    }
+}
+
+/// "a state of another length is 107", before every other check, and it stays.
+#[test]
+fn a_state_of_another_length_is_107_before_all() {
+    let random = &mut Random::new(10);
+    for length in [0, 1, 3, 4784, 4786, 4787, 4096, 8192, 2 * state::SIZE] {
+        for round in 0..6 {
+            let adapter = Adapter::sound(random);
+            let opening = if round % 2 == 0 {
+                generate::sound_opening(random, &adapter)
+            } else {
+                generate::damaged_opening(random, &adapter)
+            };
+            let before = random.bytes(length);
+            let mut pair = Pair::of(&before, &opening.medium);
+            let number = pair.open(&opening.text, &opening.file);
+            assert_eq!(number, Ok(call::STATE), "length {length}");
+            assert!(*pair.state() == before, "length {length}");
         }
     }
 }
@@ -42,7 +110,7 @@ fn sound_files_of_every_size_open() {
 #[test]
 fn each_rule_broken_alone() {
     let random = &mut Random::new(2);
-    for damage in ALL {
+    for damage in damage::all(Form::File) {
         for _ in 0..40 {
             let (adapter, file) = damaged(random, damage);
             let medium = vec![0; adapter.medium_length()];
@@ -55,20 +123,14 @@ fn each_rule_broken_alone() {
 fn damage_with_the_checks_left_is_answered_alike() {
     let random = &mut Random::new(3);
     let mut checks = 0;
-    for damage in ALL {
+    for damage in damage::all(Form::File) {
         for _ in 0..20 {
             let adapter = Adapter::sound(random);
             let Some(file) = damage.unsealed(random, &adapter) else {
                 continue;
             };
             let medium = vec![0; adapter.medium_length()];
-            let number = Side::Library.open(b"", &file, &medium);
-            assert_eq!(
-                number,
-                Side::Model.open(b"", &file, &medium),
-                "{}",
-                damage.name
-            );
+            let (number, _) = opened(damage.name, b"", &file, &medium);
             checks += usize::from(number == call::BLOCK_CHECK);
         }
     }
@@ -78,7 +140,7 @@ fn damage_with_the_checks_left_is_answered_alike() {
 #[test]
 fn the_text_comes_first_and_the_medium_last() {
     let random = &mut Random::new(4);
-    for damage in ALL {
+    for damage in damage::all(Form::File) {
         let (adapter, file) = damaged(random, damage);
         let wrong_text = text::damaged(random);
         let wrong_medium = medium::of_wrong_length(random, adapter.phys.len());
@@ -139,6 +201,22 @@ fn checks_come_before_fields_and_fields_before_rows() {
     }
 }
 
+/// Any two of 64 rows that share SAS address and LUN, or all four OS bytes.
+#[test]
+fn any_two_rows_that_share_are_105() {
+    let adapter = Adapter::of_counts(&mut Random::new(11), 1, 64);
+    let medium = vec![0; adapter.medium_length()];
+    for (one, other) in (0..64).flat_map(|one| (0..one).map(move |other| (one, other))) {
+        for shared in [0..16, 16..20] {
+            let mut changed = adapter.clone();
+            let bytes = adapter.rows[other][shared.clone()].to_vec();
+            changed.rows[one][shared].copy_from_slice(&bytes);
+            let what = format!("rows {other} and {one}");
+            assert_number(&what, call::SHARED_ROW, b"", &changed.file(), &medium);
+        }
+    }
+}
+
 #[test]
 fn texts_are_answered_alike() {
     let random = &mut Random::new(6);
@@ -155,8 +233,7 @@ fn texts_are_answered_alike() {
         );
         assert_number("text", call::TEXT, &text::damaged(random), &file, &medium);
         let changed = text::changed(random);
-        let number = Side::Model.open(&changed, &file, &medium);
-        assert_number("changed text", number, &changed, &file, &medium);
+        opened("changed text", &changed, &file, &medium);
     }
 }
 
@@ -167,10 +244,8 @@ fn thousands_of_damaged_openings_are_answered_alike() {
     for round in 0..4000 {
         let adapter = Adapter::sound(random);
         let opening = generate::damaged_opening(random, &adapter);
-        let number = Side::Model.open(&opening.text, &opening.file, &opening.medium);
-        assert_number(
+        let (number, _) = opened(
             &format!("round {round}"),
-            number,
             &opening.text,
             &opening.file,
             &opening.medium,

@@ -1,14 +1,14 @@
-//! Sessions through both implementations: every number, every return code and every byte.
+//! Sessions through both implementations, by the run and by the two calls: every number, every return code and every byte.
 
 use differential::adapter::Adapter;
+use differential::case::{Case, Outcome};
 use differential::compare::compare;
 use differential::coverage::Coverage;
-use differential::names::{call, header, phy, status, LONGEST};
+use differential::names::{call, header, phy, status, stp, PROGRAM_LONGEST};
 use differential::random::Random;
 use differential::request::passthrough::Passthrough;
 use differential::request::{self, fis};
-use differential::session::{join, oversized};
-use differential::side::{Case, Outcome};
+use differential::session::{cut, join};
 use differential::wire::{put_word, word};
 use differential::{generate, names, need, text};
 use std::ops::Range;
@@ -140,7 +140,7 @@ fn small_request(random: &mut Random, adapter: &Adapter, control: u32) -> Vec<u8
     if control != names::code::STP_PASSTHRU {
         return request::sound(random, adapter, control);
     }
-    let fis = fis::command(random, names::stp::WRITE, 3, 1);
+    let fis = fis::command(random, stp::WRITE, 3, 1);
     let body = Passthrough::of_fis(random, adapter, fis).body(random);
     request::buffer(control, &body)
 }
@@ -238,44 +238,82 @@ fn a_session_cut_at_each_place() {
     );
 }
 
+/// A request is handled if its bytes are all there, whatever its length; the program's limit is not the library's.
 #[test]
-fn lengths_near_the_longest() {
+fn lengths_near_the_limit_of_the_program() {
     let base = sound_case(22, text::FULL, 4);
+    let longest = PROGRAM_LONGEST;
     for length in [
         0,
         1,
         27,
         28,
-        LONGEST - 1,
-        LONGEST,
-        LONGEST + 1,
-        LONGEST + 256,
+        longest - 1,
+        longest,
+        longest + 1,
+        longest + 256,
         0x7FFF_FFFF,
         0xFFFF_FFFC,
         0xFFFF_FFFF,
     ] {
-        for bytes in [0, 1, 28, LONGEST - 1, LONGEST, LONGEST + 1] {
+        for bytes in [0, 1, 28, longest - 1, longest, longest + 1] {
             let mut case = base.clone();
             case.record = vec![0x5A; 100];
-            case.session.extend(oversized(length as u32, bytes));
+            case.session.extend(cut(length as u32, bytes));
             case.session.extend([5, 0, 0, 0, 9]);
             let handled = agreed(&case).handled;
-            let whole = length <= LONGEST && length <= bytes + 5;
+            let whole = length <= bytes + 5;
             assert_eq!(handled > 4, whole, "length {length}, {bytes} bytes");
         }
     }
 }
 
 #[test]
-fn the_longest_request_is_handled() {
+fn requests_of_any_length_are_handled() {
     let random = &mut Random::new(23);
     let adapter = Adapter::of_counts(random, 2, 0);
     let medium = vec![0; adapter.medium_length()];
-    let mut request = request::sound(random, &adapter, names::code::DRIVER_INFO);
-    request.resize(LONGEST, 1);
-    let case = Case::of_requests(23, b"", &adapter.file(), &medium, &[request]);
+    let driver_info = request::sound(random, &adapter, names::code::DRIVER_INFO);
+    let lengths = [
+        PROGRAM_LONGEST,
+        PROGRAM_LONGEST + 1,
+        65_535,
+        65_536,
+        65_537,
+        1_000_000,
+        5_000_000,
+    ];
+    let requests = lengths.map(|length| resized(&driver_info, length));
+    let case = Case::of_requests(23, b"", &adapter.file(), &medium, &requests);
     let outcome = agreed(&case);
-    assert_eq!(case.exchanges(&outcome)[0].code, status::SUCCESS);
+    let exchanges = case.exchanges(&outcome);
+    assert_eq!(exchanges.len(), lengths.len());
+    assert!(exchanges.iter().all(|one| one.code == status::SUCCESS));
+}
+
+/// Commands with a bDataBuffer, Length and uDataLength far above the 8,192 bytes that a command moves.
+#[test]
+fn long_data_buffers_agree() {
+    let random = &mut Random::new(25);
+    let adapter = Adapter::of_counts(random, 8, 0);
+    let mut requests = Vec::new();
+    for data in [8_192, 32_768 - 164, 32_768 - 163, 70_000, 300_000] {
+        for command in [stp::READ, stp::WRITE, stp::IDENTIFY, stp::CHECK_POWER] {
+            let fis = fis::command(random, command, 0, 16);
+            let mut passthrough = Passthrough::of_fis(random, &adapter, fis);
+            passthrough.data = random.bytes(data);
+            passthrough.data_length = data as u32;
+            let body = passthrough.body(random);
+            requests.push(request::buffer(names::code::STP_PASSTHRU, &body));
+        }
+    }
+    let medium = random.bytes(adapter.medium_length());
+    let case = Case::of_requests(25, b"CSMI=Full;", &adapter.file(), &medium, &requests);
+    let outcome = agreed(&case);
+    let exchanges = case.exchanges(&outcome);
+    let granted = exchanges.iter().filter(|one| need::granted(one)).count();
+    assert_eq!(exchanges.len(), 20);
+    assert!(granted > 10, "only {granted} were granted");
 }
 
 #[test]

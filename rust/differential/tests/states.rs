@@ -1,156 +1,320 @@
-//! States made by hand, which no run meets: 106 and 107 of the model alone.
+//! Requests to states that a caller made, which no run meets: every number, and every byte of state, medium and buffer.
 
+use differential::adapter::damage::{self, Damage};
+use differential::adapter::form::Form;
 use differential::adapter::Adapter;
-use differential::names::{call, header, status, DISK};
+use differential::names::{call, header, state, status, DISK};
+use differential::pair::{Pair, Reply};
 use differential::random::Random;
+use differential::side::{Side, CALLS};
+use differential::state::reading::{driver_info, phy_info};
+use differential::state::{alter, made};
 use differential::wire::word;
-use differential::{probe, text};
-use model::State;
+use differential::{generate, medium, text};
 
-/// A state that breaks no rule, and its medium: phys of every kind, some rows.
-fn sound_state() -> (State, Vec<u8>) {
-    let adapter = Adapter::of_counts(&mut Random::new(1), 12, 7);
-    let medium = vec![0; adapter.medium_length()];
-    let (number, state) = model::open(b"CSMI=Full;", &adapter.file(), &medium);
-    assert_eq!(number, call::ACCEPTED);
-    (state, medium)
+/// What both sides give.
+fn agreed(what: &str, pair: &mut Pair, request: &[u8]) -> Reply {
+    pair.request(request)
+        .unwrap_or_else(|difference| panic!("{what}: {difference}"))
 }
 
-/// A change to a sound state gives 107, and nothing is touched.
-fn assert_broken(what: &str, change: impl Fn(&mut State)) {
-    let (mut state, mut medium) = sound_state();
-    change(&mut state);
-    let before = state.clone();
-    let mut buffer = probe::phy_info();
-    let number = model::request(&mut state, &mut medium, &mut buffer);
-    assert_eq!(number, call::STATE, "{what}");
-    assert!(state == before && buffer == probe::phy_info(), "{what}");
-    assert!(!model::denied(&state, &medium, &buffer), "{what}");
+/// On each side alone: the number, and no byte of state, medium or buffer is touched.
+fn assert_refused(what: &str, number: u32, state: &[u8], medium: &[u8], buffer: &[u8]) {
+    for side in CALLS {
+        let (mut s, mut m, mut b) = (state.to_vec(), medium.to_vec(), buffer.to_vec());
+        let given = side.request(&mut s, &mut m, &mut b);
+        assert_eq!(given, number, "{what}, {side:?}");
+        let untouched = s == state && m == medium && b == buffer;
+        assert!(untouched, "{what}, {side:?}: something is touched");
+    }
 }
 
-fn first_with_device(state: &State) -> usize {
-    state
-        .live_phys()
-        .iter()
-        .position(|phy| phy.device_type() != 0)
-        .expect("a phy with a device")
+/// An adapter that has a place for the damage, and its damaged state.
+fn broken(random: &mut Random, damage: &Damage, level: u8) -> (Adapter, Vec<u8>) {
+    for _ in 0..1000 {
+        let adapter = Adapter::sound(random);
+        if let Some(state) = damage.state(random, &adapter, level) {
+            return (adapter, state);
+        }
+    }
+    panic!("no adapter has a place for: {}", damage.name);
 }
 
-fn first_without_device(state: &State) -> usize {
-    state
-        .live_phys()
-        .iter()
-        .position(|phy| phy.device_type() == 0)
-        .expect("a phy without a device")
+/// Sound requests, faulty ones and short ones.
+fn some_requests(random: &mut Random, adapter: &Adapter) -> Vec<Vec<u8>> {
+    let mut requests = generate::requests(random, adapter, 2);
+    requests.extend([driver_info(), vec![0; 27], Vec::new()]);
+    requests
 }
 
 #[test]
-fn a_medium_of_another_length_is_106() {
-    let (mut state, medium) = sound_state();
-    for length in [
-        0,
-        1,
-        medium.len() - 1,
-        medium.len() + 1,
-        medium.len() - DISK,
-        medium.len() + DISK,
-    ] {
-        let before = state.clone();
-        for buffer in [probe::phy_info(), Vec::new()] {
-            let mut reply = buffer.clone();
-            let number = model::request(&mut state, &mut vec![0; length], &mut reply);
-            assert_eq!(number, call::MEDIUM_LENGTH, "length {length}");
-            assert!(state == before && reply == buffer);
+fn sound_states_of_every_size_and_level_answer() {
+    let random = &mut Random::new(1);
+    for p in 1..=32 {
+        for a in [0, 1, 20, 63, 64] {
+            let adapter = Adapter::of_counts(random, p, a);
+            let medium = random.bytes(adapter.medium_length());
+            for level in text::LEVELS {
+                let what = format!("p {p}, a {a}, level {level}");
+                let mut pair = Pair::of(&adapter.state(level), &medium);
+                let reply = agreed(&what, &mut pair, &phy_info());
+                let expected = match level {
+                    text::NONE => status::WRITE_ATTEMPTED,
+                    _ => status::SUCCESS,
+                };
+                let code = word(&reply.buffer, header::RETURN_CODE);
+                assert_eq!((reply.number, code), (call::ACCEPTED, expected), "{what}");
+                for request in generate::requests(random, &adapter, 6) {
+                    let number = agreed(&what, &mut pair, &request).number;
+                    assert_ne!(number, call::STATE, "{what}");
+                }
+            }
         }
     }
 }
 
 #[test]
-fn a_sound_state_answers() {
-    let (mut state, mut medium) = sound_state();
-    for level in text::LEVELS {
-        state.level = level;
-        let mut buffer = probe::phy_info();
-        assert_eq!(
-            model::request(&mut state, &mut medium, &mut buffer),
-            call::ACCEPTED
-        );
-        let expected = if level == text::NONE {
-            status::WRITE_ATTEMPTED
-        } else {
-            status::SUCCESS
-        };
-        assert_eq!(word(&buffer, header::RETURN_CODE), expected);
+fn each_rule_of_a_state_broken_alone_is_107() {
+    let random = &mut Random::new(2);
+    for damage in damage::all(Form::State) {
+        for round in 0..24 {
+            let level = text::LEVELS[round % 4];
+            let (adapter, state) = broken(random, damage, level);
+            let medium = random.bytes(adapter.medium_length());
+            for request in some_requests(random, &adapter) {
+                assert_refused(damage.name, call::STATE, &state, &medium, &request);
+            }
+        }
     }
 }
 
 #[test]
-fn a_state_with_a_broken_level_or_count_is_107() {
-    for level in [4, 5, 128, 255] {
-        assert_broken("level", |state| state.level = level);
+fn every_level_over_3_is_107() {
+    let adapter = Adapter::of_counts(&mut Random::new(3), 2, 2);
+    let medium = vec![0x11; adapter.medium_length()];
+    for level in 4..=255 {
+        let state = adapter.state(level);
+        assert_refused("level", call::STATE, &state, &medium, &driver_info());
     }
-    for p in [0, 33, 128, 255] {
-        assert_broken("p", |state| state.p = p);
+}
+
+#[test]
+fn the_zero_state_is_107() {
+    let zero = [0; state::SIZE];
+    for medium in [vec![], vec![0; DISK]] {
+        for request in [driver_info(), Vec::new()] {
+            assert_refused("zero state", call::STATE, &zero, &medium, &request);
+        }
     }
-    for a in [65, 128, 255] {
-        assert_broken("a", |state| state.a = a);
+}
+
+/// "a state of another length is 107": whatever it holds, and whatever else is wrong.
+#[test]
+fn a_state_of_another_length_is_107() {
+    let random = &mut Random::new(4);
+    let adapter = Adapter::of_counts(random, 3, 5);
+    let sound = adapter.state(text::FULL);
+    let medium = random.bytes(adapter.medium_length());
+    for length in [0, 1, 3, 177, 3505, 4784, 4786, 4787, 8192, 2 * state::SIZE] {
+        let mut state = sound.clone();
+        state.resize(length, 0);
+        for request in some_requests(random, &adapter) {
+            assert_refused("length", call::STATE, &state, &medium, &request);
+            assert_refused("length", call::STATE, &state, &[], &request);
+        }
     }
-    assert_broken("p below the phys that are there", |state| state.p = 11);
-    assert_broken("p beyond the phys that are there", |state| state.p = 13);
-    assert_broken("a below the rows that are there", |state| state.a = 6);
-    assert_broken(
-        "a beyond the rows that are there, two of them zero",
-        |state| state.a = 9,
+}
+
+/// Zeros behind a sound state, or before it, do not make one of another length sound.
+#[test]
+fn only_4785_bytes_are_a_state() {
+    let adapter = Adapter::of_counts(&mut Random::new(5), 1, 0);
+    let medium = vec![0; adapter.medium_length()];
+    for length in (0..200).chain(4700..4900) {
+        let mut state = adapter.state(text::FULL);
+        state.resize(length, 0);
+        if length != state::SIZE {
+            assert_refused("length", call::STATE, &state, &medium, &driver_info());
+        }
+    }
+}
+
+/// 106 of a request, which no run meets.
+#[test]
+fn a_medium_of_another_length_is_106() {
+    let random = &mut Random::new(6);
+    for p in 1..=32 {
+        let adapter = Adapter::of_counts(random, p, p);
+        let state = adapter.state(random.pick(&text::LEVELS));
+        let right = adapter.medium_length();
+        let mut lengths = vec![
+            0,
+            1,
+            DISK - 1,
+            right - 1,
+            right + 1,
+            right - DISK,
+            right + DISK,
+        ];
+        lengths.retain(|&length| length != right);
+        for length in lengths {
+            let medium = random.bytes(length);
+            for request in some_requests(random, &adapter) {
+                assert_refused("medium", call::MEDIUM_LENGTH, &state, &medium, &request);
+            }
+        }
+    }
+}
+
+/// "Checks, in order: state; medium length; buffer of 28 bytes".
+#[test]
+fn the_state_comes_before_the_medium_and_the_medium_before_the_buffer() {
+    let random = &mut Random::new(7);
+    for damage in damage::all(Form::State) {
+        let (adapter, state) = broken(random, damage, text::FULL);
+        let wrong = medium::of_wrong_length(random, adapter.phys.len());
+        let right = random.bytes(adapter.medium_length());
+        let sound = adapter.state(text::FULL);
+        for length in [0, 1, 20, 24, 27] {
+            let short = random.bytes(length);
+            assert_refused("all three", call::STATE, &state, &wrong, &short);
+            assert_refused("state and buffer", call::STATE, &state, &right, &short);
+            assert_refused("medium", call::MEDIUM_LENGTH, &sound, &wrong, &short);
+            assert_refused("buffer", call::BUFFER, &sound, &right, &short);
+        }
+    }
+}
+
+/// One more row is there where a is one more: a row of zeros is a row like others.
+#[test]
+fn a_row_of_zeros_may_be_counted() {
+    let random = &mut Random::new(8);
+    let adapter = Adapter::of_counts(random, 2, 9);
+    let medium = random.bytes(adapter.medium_length());
+    let mut state = adapter.state(text::FULL);
+    state[state::ROW_COUNT] += 1;
+    let mut pair = Pair::of(&state, &medium);
+    assert_eq!(agreed("zeros", &mut pair, &driver_info()).number, 0);
+}
+
+/// Any two of 64 rows that share SAS address and LUN, or all four OS bytes.
+#[test]
+fn any_two_rows_that_share_are_107() {
+    let random = &mut Random::new(13);
+    let adapter = Adapter::of_counts(random, 1, 64);
+    let medium = vec![0; adapter.medium_length()];
+    let sound = adapter.state(text::FULL);
+    for (one, other) in (0..64).flat_map(|one| (0..one).map(move |other| (one, other))) {
+        for shared in [0..16, 16..20] {
+            let mut state = sound.clone();
+            let from = state::row_at(other);
+            let bytes = from + shared.start..from + shared.end;
+            state.copy_within(bytes, state::row_at(one) + shared.start);
+            let what = format!("rows {other} and {one}, bytes {shared:?}");
+            assert_refused(&what, call::STATE, &state, &medium, &[]);
+        }
+    }
+}
+
+/// Thousands of states: sound, with a broken rule, and any bytes; each number of a call is met, and none besides.
+#[test]
+fn states_of_any_kind_are_answered_alike() {
+    let made = made::run(9, 6000);
+    assert_eq!(made.differences.len(), 0, "{:?}", made.differences.first());
+    let met: Vec<u32> = made.calls.keys().copied().collect();
+    assert_eq!(
+        met,
+        [
+            call::ACCEPTED,
+            call::BUFFER,
+            call::MEDIUM_LENGTH,
+            call::STATE
+        ]
+    );
+    assert!(
+        made.calls.values().all(|&count| count > 100),
+        "{:?}",
+        made.calls
     );
 }
 
-#[test]
-fn a_state_that_is_not_zero_past_its_counts_is_107() {
-    assert_broken("entity", |state| state.phys[31].entity[0] = 1);
-    assert_broken("counter", |state| state.phys[12].counters[3] = 1);
-    assert_broken("signature", |state| state.phys[20].signature[19] = 1);
-    assert_broken("held", |state| state.phys[12].held = 1);
-    assert_broken("fixed", |state| state.phys[12].fixed = 1);
-    assert_broken("lowest", |state| state.phys[12].lowest = 8);
-    assert_broken("highest", |state| state.phys[31].highest = 9);
-    assert_broken("SAS address", |state| state.rows[7].sas_address[0] = 1);
-    assert_broken("SAS LUN", |state| state.rows[63].sas_lun[7] = 1);
-    assert_broken("OS bytes", |state| state.rows[63].os[3] = 1);
+/// All 4,785 places, some other values each.
+fn altered(seed: u64, p: usize, a: usize) {
+    let done = alter::run(seed, p, a, alter::Values::Some);
+    assert_eq!(done.differences.len(), 0, "{:?}", done.differences.first());
+    assert!(done.alterations > 3 * state::SIZE as u64);
+    assert!(done.sound > 500, "only {} were sound", done.sound);
 }
 
 #[test]
-fn a_state_with_a_broken_field_is_107() {
-    assert_broken("phy identifier", |state| state.phys[3].entity[20] = 4);
-    assert_broken("signal class", |state| state.phys[3].entity[21] = 4);
-    assert_broken("port identifier", |state| state.phys[3].entity[28] = 12);
-    assert_broken("negotiated rate", |state| state.phys[3].entity[29] = 3);
-    assert_broken("minimum rate", |state| state.phys[3].entity[30] = 0x87);
-    assert_broken("maximum rate", |state| state.phys[3].entity[31] = 0xA9);
-    assert_broken("fixed", |state| state.phys[11].fixed = 2);
-    assert_broken("held", |state| state.phys[0].held = 2);
-    assert_broken("device type", |state| {
-        let n = first_with_device(state);
-        state.phys[n].entity[36] = 0x40;
-    });
-    assert_broken("device rate", |state| {
-        let n = first_with_device(state);
-        state.phys[n].highest = 10;
-    });
-    assert_broken("attached bytes of no device", |state| {
-        let n = first_without_device(state);
-        state.phys[n].entity[63] = 1;
-    });
-    assert_broken("signature of no device", |state| {
-        let n = first_without_device(state);
-        state.phys[n].signature[0] = 1;
-    });
+fn every_byte_of_a_state_of_7_phys_and_20_rows_altered() {
+    altered(10, 7, 20);
 }
 
 #[test]
-fn a_state_with_shared_rows_is_107() {
-    assert_broken("SAS address and LUN", |state| {
-        state.rows[6].sas_address = state.rows[0].sas_address;
-        state.rows[6].sas_lun = state.rows[0].sas_lun;
-    });
-    assert_broken("OS bytes", |state| state.rows[5].os = state.rows[2].os);
+fn every_byte_of_a_state_of_32_phys_and_64_rows_altered() {
+    altered(11, 32, 64);
+}
+
+/// Requests to several adapters in turn, and an opening now and then: each goes by its own state and medium alone.
+#[test]
+fn nothing_is_kept_between_the_calls() {
+    let random = &mut Random::new(14);
+    let mut adapters: Vec<(Adapter, Pair)> = (0..6)
+        .map(|n| {
+            let adapter = Adapter::sound(random);
+            let medium = random.bytes(adapter.medium_length());
+            let pair = Pair::of(&adapter.state(text::LEVELS[n % 4]), &medium);
+            (adapter, pair)
+        })
+        .collect();
+    for _ in 0..2000 {
+        let (adapter, pair) = &mut adapters[random.below(6)];
+        let request = differential::request::any(random, adapter);
+        agreed("in turn", pair, &request);
+        if random.one_in(20) {
+            let opening = generate::damaged_opening(random, adapter);
+            let mut other = Pair::of(&random.bytes(state::SIZE), &opening.medium);
+            let number = other.open(&opening.text, &opening.file);
+            assert!(number.is_ok(), "{number:?}");
+        }
+    }
+}
+
+/// The arguments stand inside longer buffers, at odd places: nothing outside them is touched.
+#[test]
+fn nothing_outside_the_arguments_is_touched() {
+    const GUARD: usize = 61;
+    let random = &mut Random::new(12);
+    let guarded = |bytes: &[u8]| [&[0xC3; GUARD][..], bytes, &[0xC3; GUARD]].concat();
+    let intact = |bytes: &[u8]| {
+        let end = bytes.len() - GUARD;
+        bytes[..GUARD] == [0xC3; GUARD] && bytes[end..] == [0xC3; GUARD]
+    };
+    let inside = |bytes: &Vec<u8>| GUARD..bytes.len() - GUARD;
+    for _ in 0..60 {
+        let adapter = Adapter::sound(random);
+        let opening = generate::sound_opening(random, &adapter);
+        let length = random.pick(&[state::SIZE, state::SIZE, state::SIZE - 1, 0]);
+        let mut state = guarded(&vec![0xC3; length]);
+        let mut medium = guarded(&opening.medium);
+        let range = inside(&state);
+        Side::Library.open(
+            &opening.text,
+            &opening.file,
+            &opening.medium,
+            &mut state[range],
+        );
+        for request in generate::requests(random, &adapter, 30) {
+            let mut buffer = guarded(&request);
+            let ranges = (inside(&state), inside(&medium), inside(&buffer));
+            Side::Library.request(
+                &mut state[ranges.0],
+                &mut medium[ranges.1],
+                &mut buffer[ranges.2],
+            );
+            assert!(intact(&buffer));
+        }
+        assert!(intact(&state) && intact(&medium));
+    }
 }

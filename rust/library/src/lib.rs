@@ -1,4 +1,7 @@
-//! The two functions of the proved static library, over slices. All `unsafe` code of this workspace is here.
+//! The three functions of the proved static library, over slices. All `unsafe` code of this workspace is here.
+
+/// The bytes of a state; `include/ascheknopf.h` says what each is.
+pub const STATE_SIZE: usize = 4785;
 
 mod interface {
     extern "C" {
@@ -9,6 +12,17 @@ mod interface {
             file_len: usize,
             medium: *const u8,
             medium_len: usize,
+            state: *mut u8,
+            state_len: usize,
+        ) -> u32;
+
+        pub fn ascheknopf_request(
+            state: *mut u8,
+            state_len: usize,
+            medium: *mut u8,
+            medium_len: usize,
+            buffer: *mut u8,
+            buffer_len: usize,
         ) -> u32;
 
         pub fn ascheknopf_run(
@@ -26,9 +40,10 @@ mod interface {
     }
 }
 
-/// The call's number of an opening: 0 if it is accepted.
-pub fn open(text: &[u8], file: &[u8], medium: &[u8]) -> u32 {
-    // A slice's pointer is never null, and each is read for its own length only.
+/// Opens an adapter: the call's number. 0 writes the state, a refusal the zero state; a state of another length than
+/// `STATE_SIZE` is 107 and stays.
+pub fn open(text: &[u8], file: &[u8], medium: &[u8], state: &mut [u8]) -> u32 {
+    // Each slice is read for its own length only; the state, which is written, is borrowed mutably and overlaps none.
     unsafe {
         interface::ascheknopf_open(
             text.as_ptr(),
@@ -37,6 +52,24 @@ pub fn open(text: &[u8], file: &[u8], medium: &[u8]) -> u32 {
             file.len(),
             medium.as_ptr(),
             medium.len(),
+            state.as_mut_ptr(),
+            state.len(),
+        )
+    }
+}
+
+/// Handles one request: the call's number. With 0 the buffer is the reply, and state and medium are those of the next request;
+/// with any other nothing is touched.
+pub fn request(state: &mut [u8], medium: &mut [u8], buffer: &mut [u8]) -> u32 {
+    // As above; all three are written.
+    unsafe {
+        interface::ascheknopf_request(
+            state.as_mut_ptr(),
+            state.len(),
+            medium.as_mut_ptr(),
+            medium.len(),
+            buffer.as_mut_ptr(),
+            buffer.len(),
         )
     }
 }
@@ -50,7 +83,7 @@ pub fn run(
     session: &mut [u8],
     record: &mut [u8],
 ) -> usize {
-    // As above; the three that are written are borrowed mutably, so that none overlaps another.
+    // As above; medium, session and record are written.
     unsafe {
         interface::ascheknopf_run(
             text.as_ptr(),
@@ -68,30 +101,4 @@ pub fn run(
 }
 
 #[cfg(test)]
-mod tests {
-    use super::*;
-
-    #[test]
-    fn an_empty_file_is_102() {
-        assert_eq!(open(&[], &[], &[]), 102);
-    }
-
-    #[test]
-    fn a_wrong_text_is_101() {
-        assert_eq!(open(b"CSMI=full;", &[], &[]), 101);
-    }
-
-    #[test]
-    fn a_request_after_a_refused_opening_gets_107() {
-        let mut session = [5, 0, 0, 0, 1, 2, 3, 4, 5];
-        let mut record = [0x5A; 10];
-        assert_eq!(run(&[], &[], &mut [], &mut session, &mut record), 1);
-        assert_eq!(session, [5, 0, 0, 0, 1, 2, 3, 4, 5]);
-        assert_eq!(record, [107, 0, 0, 0, 0xFF, 0xFF, 0xFF, 0xFF, 0x5A, 0x5A]);
-    }
-
-    #[test]
-    fn an_empty_session_has_no_requests() {
-        assert_eq!(run(&[], &[], &mut [], &mut [], &mut []), 0);
-    }
-}
+mod tests;

@@ -4,21 +4,19 @@ use crate::bytes::{all_zero, array_at, u32_at};
 use crate::codes::call;
 use crate::disk;
 use crate::fields;
+use crate::layout::{PHY_SIZE, ROW_SIZE};
 use crate::level::Level;
 use crate::state::{Phy, Row, State};
 
 pub const BLOCK: usize = 512;
 /// The check's place: the last four bytes of a block.
 pub const CHECK: usize = 508;
-pub const ROW: usize = 20;
 pub const ROWS_PER_BLOCK: usize = 25;
 
-/// Where the named bytes of a phy's block end.
-const PHY_END: usize = 104;
 const DRIVER_INFO_AT: usize = 4;
 const DRIVER_INFO_END: usize = 178;
 /// Where the rows of a row block end.
-const ROWS_END: usize = ROW * ROWS_PER_BLOCK;
+const ROWS_END: usize = ROW_SIZE * ROWS_PER_BLOCK;
 
 /// Opens an adapter: the call's number, and the state.
 pub fn open(text: &[u8], file: &[u8], medium: &[u8]) -> (u32, State) {
@@ -94,40 +92,25 @@ fn held_by(
     state.a = first[1];
     state.driver_info = array_at(first, DRIVER_INFO_AT);
     for (phy, block) in state.phys.iter_mut().zip(phy_blocks) {
-        *phy = phy_of(block);
+        *phy = Phy::from_bytes(named(block));
     }
     let rows = usize::from(state.a);
     for (row, bytes) in state.rows[..rows].iter_mut().zip(rows_in(row_blocks)) {
-        *row = row_of(bytes);
+        *row = Row::from_bytes(bytes);
     }
     state
 }
 
-fn phy_of(block: &[u8; BLOCK]) -> Phy {
-    Phy {
-        entity: array_at(block, 0),
-        counters: [64, 68, 72, 76].map(|at| u32_at(block, at)),
-        signature: array_at(block, 80),
-        held: block[100],
-        fixed: block[101],
-        lowest: block[102],
-        highest: block[103],
-    }
-}
-
-fn row_of(bytes: &[u8; ROW]) -> Row {
-    Row {
-        sas_address: array_at(bytes, 0),
-        sas_lun: array_at(bytes, 8),
-        os: array_at(bytes, 16),
-    }
+/// The bytes of a phy's block that are named.
+fn named(block: &[u8; BLOCK]) -> &[u8; PHY_SIZE] {
+    block.first_chunk().expect("a block is longer")
 }
 
 /// The places for rows, used or not.
-fn rows_in(row_blocks: &[[u8; BLOCK]]) -> impl Iterator<Item = &[u8; ROW]> {
+fn rows_in(row_blocks: &[[u8; BLOCK]]) -> impl Iterator<Item = &[u8; ROW_SIZE]> {
     row_blocks
         .iter()
-        .flat_map(|block| block[..ROWS_END].as_chunks::<ROW>().0)
+        .flat_map(|block| block[..ROWS_END].as_chunks::<ROW_SIZE>().0)
 }
 
 /// "Bytes not named, and bytes past the last row, are 0."
@@ -140,7 +123,7 @@ fn unnamed_are_zero(
         && all_zero(&first[DRIVER_INFO_END..CHECK])
         && phy_blocks
             .iter()
-            .all(|block| all_zero(&block[PHY_END..CHECK]))
+            .all(|block| all_zero(&block[PHY_SIZE..CHECK]))
         && row_blocks
             .iter()
             .all(|block| all_zero(&block[ROWS_END..CHECK]))

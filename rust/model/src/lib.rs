@@ -3,7 +3,7 @@
 //!
 //! Two calls: [`open`] an adapter, and handle one [`request`]; the latter also in its two parts,
 //! [`tested`] and [`answer`]. The modules follow the document's parts, each resting on the ones
-//! before it: level, link, fields, file, disk, request.
+//! before it: level, link, fields, file, disk, request. `layout` gives the state as bytes.
 
 #![forbid(unsafe_code)]
 
@@ -12,6 +12,7 @@ pub mod codes;
 pub mod disk;
 pub mod fields;
 pub mod file;
+pub mod layout;
 pub mod level;
 pub mod link;
 pub mod request;
@@ -21,6 +22,7 @@ pub mod state;
 mod tests;
 
 pub use file::{block_check, open};
+pub use layout::STATE_SIZE;
 pub use link::{link_rule, Rates};
 pub use request::{answer, denied, request, tested};
 pub use state::{Phy, Row, State};

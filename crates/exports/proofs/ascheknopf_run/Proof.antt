@@ -1,5 +1,5 @@
 -- `exports::ascheknopf_run` meets its contract. Assumes nothing.
-use Rattle.exports.specs.Laws.{opened-ran, opened-sized}
+use Rattle.exports.specs.Laws.{opened-ran}
 use borrow.Author.Needs.{needs}
 use Rattle.exports.proofs.ascheknopf_run.Statement.{statement}
 use Rattle.exports.proofs.ascheknopf_run.Tie as tie
@@ -7,4 +7,5 @@ use Rattle.exports.proofs.ascheknopf_run.Tie as tie
 pub ascheknopf-run-spec : {M : Type 1} → statement M
 ascheknopf-run-spec =
     tie.close
-    (tie.spec (λ c κs. search needs) (λ c κs. search (opened-sized, needs)) (λ c. search needs) (λ c. search needs) (λ c. search needs) (λ c. search (opened-ran, needs)))
+    (tie.spec (λ c. search needs) (λ c κs. search needs) (λ c. search needs) (λ c κs. search needs) (λ c. search needs)
+    (λ c. search needs) (λ c. search needs) (λ c. search (opened-ran, needs)))

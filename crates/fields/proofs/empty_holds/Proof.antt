@@ -1,7 +1,7 @@
 -- `fields::empty_holds` meets its contract. Assumes nothing.
-use Rattle.fields.specs.Rules.{emptyHolds}
 use Rattle.phy.specs.Entity.{attachedOf}
 use Rattle.phy.specs.Field.{within}
+use Rattle.fields.specs.Rules.{emptyHolds}
 use borrow.Author.Needs.{needs}
 use Rattle.fields.proofs.empty_holds.Statement.{statement}
 use Rattle.fields.proofs.empty_holds.Tie as tie
@@ -10,5 +10,4 @@ pub empty-holds-spec : {M : Type 1} → statement M
 unfolding emptyHolds attachedOf
 empty-holds-spec =
     tie.close
-    (tie.spec (λ c. search needs) (λ c κs. search (within, needs)) (λ c. search needs) (λ c κs. search needs)
-    (λ c. cc))
+    (tie.spec (λ c. search needs) (λ c κs. search (within, needs)) (λ c κs. search needs) (λ c. cc))

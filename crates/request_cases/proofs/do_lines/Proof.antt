@@ -7,15 +7,14 @@ use Rattle.request_cases.proofs.do_lines.Statement.{statement}
 use Rattle.request_cases.proofs.do_lines.Tie as tie
 
 abbrev Inv-loop : tie.InvT-loop
-Inv-loop input file₀ medium₀ state₀ from₀ file medium state from = (from ≤ length input) × (length file ≡ length file₀) × (length medium ≡ length medium₀)
+Inv-loop state₀ input file₀ medium₀ from₀ state file medium from = (from ≤ length input) × (length state ≡ length state₀) × (length file ≡ length file₀) × (length medium ≡ length medium₀)
 
 abbrev μ-loop : tie.MeasureT-loop
-μ-loop input file₀ medium₀ state₀ from₀ file medium state from = length input - from
+μ-loop state₀ input file₀ medium₀ from₀ state file medium from = length input - from
 
 pub do-lines-spec : {M : Type 1} → statement M
 do-lines-spec =
     tie.close
-    (tie.spec Inv-loop μ-loop (λ c κs. search needs) (λ c. search needs) (λ c κs. search needs) (λ c. search needs)
-    (λ c. search needs) (λ c. search needs) (λ c. search needs) (λ c. search needs) (λ c κs. search needs)
-    (λ c κs. search needs) (λ c. search needs) (λ c. search needs) (λ c. search needs) (λ c. search needs)
-    (λ c. search needs))
+    (tie.spec Inv-loop μ-loop (λ c. search needs) (λ c κs. search needs) (λ c. search needs) (λ c. search needs)
+    (λ c. search needs) (λ c. search needs) (λ c. search needs) (λ c κs. search needs) (λ c κs. search needs)
+    (λ c. search needs) (λ c. search needs) (λ c. search needs) (λ c. search needs) (λ c. search needs) (λ c. search needs))

@@ -6,4 +6,4 @@ use Rattle.select.proofs.select_existing.Tie as tie
 pub select-existing-spec : {M : Type 1} → statement M
 select-existing-spec =
     tie.close
-    (tie.spec (λ c κs. search needs) (λ c κs. search needs) (λ c κs. search needs) (λ c. cc))
+    (tie.spec (λ c κs. search needs) (λ c κs. search needs) (λ c. cc))

@@ -1,12 +1,9 @@
 -- `select::select_phy` meets its contract. Assumes nothing.
-use Rattle.select.specs.Laws.{selection-portless}
-use Rattle.select.specs.Select.{selectBy}
 use borrow.Author.Needs.{needs}
 use Rattle.select.proofs.select_phy.Statement.{statement}
 use Rattle.select.proofs.select_phy.Tie as tie
 
 pub select-phy-spec : {M : Type 1} → statement M
-unfolding selectBy
 select-phy-spec =
     tie.close
-    (tie.spec (λ c κs. search needs) (λ c κs. search needs) (λ c κs. search needs) (λ c. cc) (λ c κs. search needs) (λ c. search (selection-portless, needs)))
+    (tie.spec (λ c κs. search needs) (λ c κs. search needs) (λ c. cc))

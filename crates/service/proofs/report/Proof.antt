@@ -1,8 +1,8 @@
 -- `service::report` meets its contract. Assumes nothing.
-use borrow.Author.Needs.{needs}
 use Rattle.service.specs.Laws.{room}
 use Rattle.service.specs.Serve.{reportOf}
 use Rattle.header.specs.Table.{structureSize}
+use borrow.Author.Needs.{needs}
 use Rattle.laws.specs.Choice.{picks}
 use Rattle.service.proofs.report.Statement.{statement}
 use Rattle.service.proofs.report.Tie as tie
@@ -11,8 +11,7 @@ pub report-spec : {M : Type 1} → statement M
 unfolding reportOf structureSize
 report-spec =
     tie.close
-    (tie.spec (λ c κs. search (room, needs)) (λ c. search needs) (λ c. search picks depth 9)
-    (λ c κs. search (room, needs)) (λ c. search needs) (λ c. search picks depth 9) (λ c κs. search (room, needs))
+    (tie.spec (λ c κs. search (room, needs)) (λ c. search needs) (λ c. search picks depth 9) (λ c κs. search (room, needs))
     (λ c. search needs) (λ c. search picks depth 9) (λ c κs. search (room, needs)) (λ c. search needs)
     (λ c. search picks depth 9) (λ c κs. search (room, needs)) (λ c. search needs) (λ c. search picks depth 9)
-    (λ c. search picks depth 9))
+    (λ c κs. search (room, needs)) (λ c. search needs) (λ c. search picks depth 9) (λ c. search picks depth 9))

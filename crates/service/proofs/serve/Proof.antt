@@ -1,9 +1,9 @@
 -- `service::serve` meets its contract. Assumes nothing.
-use Rattle.service.specs.Laws.{changed-by, passthrough-lent, room-and-data, set-by, structure-part}
+use Rattle.service.specs.Laws.{changed-by, reported-by, passed-by, passthrough-lent, room-and-data, structure-part}
 use Rattle.service.specs.Serve.{served}
 use Rattle.header.specs.Table.{structureSize}
-use Rattle.laws.specs.Choice.{picks}
 use borrow.Author.Needs.{needs}
+use Rattle.laws.specs.Choice.{picks}
 use Rattle.service.proofs.serve.Statement.{statement}
 use Rattle.service.proofs.serve.Tie as tie
 
@@ -11,4 +11,9 @@ pub serve-spec : {M : Type 1} → statement M
 unfolding served structureSize
 serve-spec =
     tie.close
-    (tie.spec (λ c κs. search (room-and-data, needs)) (λ c. search needs) (λ c. (search (changed-by, set-by, picks) depth 9, search needs)) (λ c κs. search (room-and-data, needs)) (λ c. search needs) (λ c. (search (changed-by, set-by, picks) depth 9, search needs)) (λ c κs. search (passthrough-lent, needs)) (λ c. search needs) (λ c. search needs) (λ c. (search (changed-by, set-by, picks) depth 9, search needs)) (λ c κs. search (structure-part, needs)) (λ c. search needs) (λ c. (search (changed-by, set-by, picks) depth 9, search needs)))
+    (tie.spec (λ c κs. search (room-and-data, needs)) (λ c. search needs) (λ c. search needs)
+    (λ c. search (changed-by, reported-by, passed-by, picks) depth 9) (λ c κs. search (room-and-data, needs))
+    (λ c. search needs) (λ c. search needs) (λ c. search (changed-by, reported-by, passed-by, picks) depth 9)
+    (λ c κs. search (passthrough-lent, needs)) (λ c. search needs) (λ c. search needs) (λ c. search needs)
+    (λ c. search (changed-by, reported-by, passed-by, picks) depth 9) (λ c κs. search (structure-part, needs))
+    (λ c. search needs) (λ c. search needs) (λ c. search (changed-by, reported-by, passed-by, picks) depth 9))

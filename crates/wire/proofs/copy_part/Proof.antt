@@ -1,21 +1,11 @@
 -- `wire::copy_part` meets its contract. Assumes nothing.
-use mathlib.Core.Path.{_≡_}
-use Prim.Native.Nat.{_-_, _≤_}
-use lib.ListN.{length}
-use Rattle.laws.specs.Splice.{part, splice}
-use Rattle.laws.specs.Copy.{copy-loop}
+use Rattle.wire.specs.Sixteens.{parted-copy}
+use borrow.Author.Needs.{needs}
 use Rattle.wire.proofs.copy_part.Statement.{statement}
 use Rattle.wire.proofs.copy_part.Tie as tie
-
-abbrev Inv-loop : tie.InvT-loop
-Inv-loop d₀ at s from n j₀ d j = (j ≤ n) × (d ≡ splice d₀ at (part s from j)) × (length d ≡ length d₀)
-
-abbrev μ-loop : tie.MeasureT-loop
-μ-loop d₀ at s from n j₀ d j = n - j
 
 pub copy-part-spec : {M : Type 1} → statement M
 copy-part-spec =
     tie.close
-    (tie.spec Inv-loop μ-loop (λ c. search copy-loop) (λ c. search copy-loop) (λ c. search copy-loop)
-    (λ c. search copy-loop) (λ c. search copy-loop) (λ c. search copy-loop) (λ c. search copy-loop)
-    (λ c. search copy-loop) (λ c. search copy-loop) (λ c. search copy-loop))
+    (tie.spec (λ c. search needs) (λ c κs. search needs) (λ c. search needs) (λ c. search needs) (λ c κs. search needs)
+    (λ c. search needs) (λ c. search (parted-copy, needs)))

@@ -1,21 +1,22 @@
-//! Damage to adapter files: each breaks one rule of "Adapter file", and the checks are made good afterwards, so that the rule
-//! itself is reached. Each knows the number that the opening gives it.
+//! Damage to adapter files and to states: each breaks one rule of document 01 and knows the number that it gets.
 
 use super::breaks::*;
-use super::row::OS;
-use super::{phy_at, seal, Adapter, CHECK_AT, MOST_PHYS, MOST_ROWS};
+use super::form::{Form, Held};
+use super::rules::RULES;
+use super::{seal, Adapter, CHECK_AT, MOST_PHYS, MOST_ROWS};
 use crate::names::phy::*;
-use crate::names::{call, BLOCK, DRIVER_SIZE, ROW_SIZE};
+use crate::names::{call, state, BLOCK, DRIVER_SIZE, ROW_SIZE};
 use crate::random::Random;
 
-/// Breaks a rule of the file; `None` where the adapter has no place for it.
-type Break = fn(&mut Random, &Adapter, &mut Vec<u8>) -> Option<()>;
+/// Breaks a rule; `None` where the adapter has no place for it.
+type Break = fn(&mut Random, &mut Held) -> Option<()>;
 
 pub struct Damage {
     pub name: &'static str,
+    /// What the opening of such a file gives; a request to such a state gets 107.
     pub number: u32,
     break_rule: Break,
-    /// Whether the checks are made good afterwards.
+    /// Whether the checks of a file are made good afterwards, so that the rule itself is reached.
     sealed: bool,
 }
 
@@ -31,10 +32,27 @@ impl Damage {
 
     /// The same with the checks as they were.
     pub fn unsealed(&self, random: &mut Random, adapter: &Adapter) -> Option<Vec<u8>> {
-        let mut file = adapter.file();
-        (self.break_rule)(random, adapter, &mut file)?;
-        Some(file)
+        self.done(random, Held::file(adapter))
     }
+
+    /// The adapter's state at a level with this damage.
+    pub fn state(&self, random: &mut Random, adapter: &Adapter, level: u8) -> Option<Vec<u8>> {
+        self.done(random, Held::state(adapter, level))
+    }
+
+    fn done(&self, random: &mut Random, mut held: Held) -> Option<Vec<u8>> {
+        (self.break_rule)(random, &mut held)?;
+        Some(held.bytes)
+    }
+}
+
+/// Every damage of a file, or of a state.
+pub fn all(form: Form) -> Vec<&'static Damage> {
+    let own = match form {
+        Form::File => FILE,
+        Form::State => STATE,
+    };
+    own.iter().chain(RULES).collect()
 }
 
 const fn sealed(name: &'static str, number: u32, break_rule: Break) -> Damage {
@@ -46,12 +64,20 @@ const fn sealed(name: &'static str, number: u32, break_rule: Break) -> Damage {
     }
 }
 
-const fn field(name: &'static str, break_rule: Break) -> Damage {
+pub(super) const fn field(name: &'static str, break_rule: Break) -> Damage {
     sealed(name, call::FIELD, break_rule)
+}
+
+pub(super) const fn row(name: &'static str, break_rule: Break) -> Damage {
+    sealed(name, call::SHARED_ROW, break_rule)
 }
 
 const fn length(name: &'static str, break_rule: Break) -> Damage {
     sealed(name, call::FILE_LENGTH, break_rule)
+}
+
+const fn of_state(name: &'static str, break_rule: Break) -> Damage {
+    sealed(name, call::STATE, break_rule)
 }
 
 const fn check(name: &'static str, break_rule: Break) -> Damage {
@@ -63,152 +89,106 @@ const fn check(name: &'static str, break_rule: Break) -> Damage {
     }
 }
 
-pub const ALL: &[Damage] = &[
-    length("no file", |_, _, file| keep(file, 0)),
-    length("under one block", |r, _, file| keep(file, r.below(BLOCK))),
-    length("a block less", |_, _, file| keep(file, file.len() - BLOCK)),
-    length("bytes missing", |r, _, file| {
-        keep(file, file.len() - r.within(1, BLOCK - 1))
+/// What a file alone can have: a wrong length, a wrong check, and bytes that are not named.
+const FILE: &[Damage] = &[
+    length("no file", |_, file| keep(file, 0)),
+    length("under one block", |r, file| keep(file, r.below(BLOCK))),
+    length("a block less", |_, file| {
+        keep(file, file.bytes.len() - BLOCK)
     }),
-    length("bytes too many", |r, _, file| {
+    length("bytes missing", |r, file| {
+        keep(file, file.bytes.len() - r.within(1, BLOCK - 1))
+    }),
+    length("bytes too many", |r, file| {
         add(file, r.within(1, BLOCK - 1))
     }),
-    length("blocks too many", |r, _, file| {
+    length("blocks too many", |r, file| {
         add(file, r.within(1, 5) * BLOCK)
     }),
-    length("another phy count", |r, a, file| {
-        other_phy_count(r, a, file)
-    }),
-    length("another number of row blocks", |r, a, file| {
-        other_row_count(r, a, file)
-    }),
-    check("block 0's check", |r, _, file| bump_check(r, file, 0)),
-    check("another block's check", |r, _, file| {
-        let block = r.within(1, file.len() / BLOCK - 1);
+    length("another phy count", other_phy_count),
+    length("another number of row blocks", other_row_count),
+    check("block 0's check", |r, file| bump_check(r, file, 0)),
+    check("another block's check", |r, file| {
+        let block = r.within(1, file.bytes.len() / BLOCK - 1);
         bump_check(r, file, block)
     }),
-    check("the check of another block number", |r, _, file| {
-        check_of_other_number(r, file)
-    }),
-    check("a changed byte", |r, _, file| {
-        let at = r.below(file.len());
+    check("the check of another block number", check_of_other_number),
+    check("a changed byte", |r, file| {
+        let at = r.below(file.bytes.len());
         change(r, file, at)
     }),
-    field("no phys", |_, _, file| set(file, 0, 0)),
-    field("too many phys", |r, _, file| {
-        set(file, 0, r.within(MOST_PHYS + 1, 255) as u8)
-    }),
-    field("too many rows", |r, _, file| {
-        set(file, 1, r.within(MOST_ROWS + 1, 255) as u8)
-    }),
-    field("bytes 2 and 3", |r, _, file| spoil(r, file, 2, 4)),
-    field("after the driver info", |r, _, file| {
+    field("bytes 2 and 3", |r, file| spoil(r, file, 2, 4)),
+    field("after the driver info", |r, file| {
         spoil(r, file, 4 + DRIVER_SIZE, CHECK_AT)
     }),
-    field("after a phy's bytes", |r, a, file| {
-        let at = phy_at(r.below(a.phys.len()));
+    field("after a phy's bytes", |r, file| {
+        let at = file.phy(r.below(file.p()));
         spoil(r, file, at + SIZE, at + CHECK_AT)
     }),
-    field("past the last row", |r, a, file| past_last_row(r, a, file)),
-    field("between row blocks", |r, a, file| {
-        between_row_blocks(r, a, file)
+    field("past the last row", past_last_row),
+    field("between row blocks", between_row_blocks),
+];
+
+/// What a state alone can have: a level over 3, bytes past p and a, and counts that are not those of its phys and rows.
+const STATE: &[Damage] = &[
+    of_state("level over 3", |r, held| {
+        set(held, state::LEVEL, r.within(4, 255) as u8)
     }),
-    field("phy identifier", |r, a, file| {
-        in_phy(r, a, file, IDENTIFIER, |r, _, was| r.other_than(was))
+    of_state("no phys, and nothing past them", |_, held| {
+        held.bytes[state::PHYS..state::ROWS].fill(0);
+        set(held, state::PHY_COUNT, 0)
     }),
-    field("signal class", |r, a, file| {
-        in_phy(r, a, file, CLASS, |r, _, _| r.within(4, 255) as u8)
+    of_state("33 phys, where 32 are there", |r, held| {
+        let p = MOST_PHYS + r.pick(&[1, 2, 32, 223]);
+        (held.p() == MOST_PHYS).then(|| held.bytes[state::PHY_COUNT] = p as u8)
     }),
-    field("port identifier", |r, a, file| {
-        in_phy(r, a, file, PORT, |r, p, _| r.within(p, 255) as u8)
+    of_state("65 rows, where 64 are there", |r, held| {
+        let a = MOST_ROWS + r.pick(&[1, 2, 64, 191]);
+        (held.a() == MOST_ROWS).then(|| held.bytes[state::ROW_COUNT] = a as u8)
     }),
-    field("minimum rate code", |r, a, file| {
-        rates(r, a, file, |r, min, max| (bad_code(r, min), max))
+    of_state("p below the phys that are there", |r, held| {
+        let p = held.p();
+        (p > 1).then(|| held.bytes[state::PHY_COUNT] = r.within(1, p - 1) as u8)
     }),
-    field("maximum rate code", |r, a, file| {
-        rates(r, a, file, |r, min, max| (min, bad_code(r, max)))
+    of_state("p beyond the phys that are there", |r, held| {
+        let p = held.p();
+        (p < MOST_PHYS).then(|| held.bytes[state::PHY_COUNT] = r.within(p + 1, MOST_PHYS) as u8)
     }),
-    field("programmed below hardware", |r, a, file| {
-        rates(r, a, file, |_, _, _| (0x89, 0x99))
+    of_state("a below the rows that are there", |r, held| {
+        let a = held.a();
+        let last = held.row(a.max(1) - 1);
+        let zero = held.bytes[last..last + ROW_SIZE] == [0; ROW_SIZE];
+        (a > 0 && !zero).then(|| held.bytes[state::ROW_COUNT] = r.below(a) as u8)
     }),
-    field("programmed above hardware", |r, a, file| {
-        rates(r, a, file, |_, _, _| (0x88, 0x98))
-    }),
-    field("programmed inverted", |r, a, file| {
-        rates(r, a, file, |_, _, _| (0x98, 0x89))
-    }),
-    field("hardware inverted", |r, a, file| {
-        rates(r, a, file, |_, _, _| (0x99, 0x88))
-    }),
-    field("attached device type", |r, a, file| {
-        let at = place(r, a, |phy| phy.has_device() && !holds(phy))?;
-        set(file, at + ATTACHED_TYPE, bad_type(r))
-    }),
-    field("attached bytes of no device", |r, a, file| {
-        let at = place(r, a, |phy| !phy.has_device())?;
-        spoil(r, file, at + ATTACHED + 1, at + ENTITY_SIZE)
-    }),
-    field("signature bytes of no device", |r, a, file| {
-        let at = place(r, a, |phy| !phy.has_device())?;
-        spoil(r, file, at + SIGNATURE, at + HELD)
-    }),
-    field("signature held by no device", |r, a, file| {
-        let at = place(r, a, |phy| !phy.has_device())?;
-        set(file, at + HELD, 1)
-    }),
-    field("lowest rate of no device", |r, a, file| {
-        let at = place(r, a, |phy| !phy.has_device())?;
-        set(file, at + LOWEST, r.pick(&[1, 8, 9, 255]))
-    }),
-    field("highest rate of no device", |r, a, file| {
-        let at = place(r, a, |phy| !phy.has_device())?;
-        set(file, at + HIGHEST, r.pick(&[1, 8, 9, 255]))
-    }),
-    field("device rate code", |r, a, file| {
-        device_rates(
-            r,
-            a,
-            file,
-            &[
-                (7, 9),
-                (0, 8),
-                (8, 10),
-                (0, 0),
-                (9, 255),
-                (10, 11),
-                (9, 137),
-            ],
-        )
-    }),
-    field("device rates inverted", |r, a, file| {
-        device_rates(r, a, file, &[(9, 8)])
-    }),
-    field("signature held", |r, a, file| {
-        let at = place(r, a, holds)?;
-        set(file, at + HELD, r.within(2, 255) as u8)
-    }),
-    field("fixed", |r, a, file| {
-        in_phy(r, a, file, FIXED, |r, _, _| r.within(2, 255) as u8)
-    }),
-    field("signature held without SATA", |r, a, file| {
-        let at = place(r, a, |phy| phy.has_device() && !phy.is_sata())?;
-        set(file, at + HELD, 1)
-    }),
-    field("signature bytes without SATA", |r, a, file| {
-        let at = place(r, a, |phy| phy.has_device() && !phy.is_sata())?;
-        spoil(r, file, at + SIGNATURE, at + HELD)
-    }),
-    field("signature bytes not held", |r, a, file| {
-        let at = place(r, a, |phy| phy.is_sata() && !holds(phy))?;
-        spoil(r, file, at + SIGNATURE, at + HELD)
-    }),
-    field("negotiated rate", |r, a, file| negotiated(r, a, file)),
-    sealed(
-        "shared SAS address and LUN",
-        call::SHARED_ROW,
-        |r, a, file| share(r, a, file, 0, OS),
+    of_state(
+        "a beyond the rows that are there, by two of zeros",
+        |r, held| {
+            let a = held.a() + 2;
+            (a <= MOST_ROWS).then(|| held.bytes[state::ROW_COUNT] = r.within(a, MOST_ROWS) as u8)
+        },
     ),
-    sealed("shared OS bytes", call::SHARED_ROW, |r, a, file| {
-        share(r, a, file, OS, ROW_SIZE)
+    of_state("entity past p", |r, held| {
+        past_phys(r, held, 0, ENTITY_SIZE)
+    }),
+    of_state("counter past p", |r, held| {
+        past_phys(r, held, COUNTERS, SIGNATURE)
+    }),
+    of_state("signature past p", |r, held| {
+        past_phys(r, held, SIGNATURE, HELD)
+    }),
+    of_state("signature held past p", |r, held| {
+        past_phys(r, held, HELD, FIXED)
+    }),
+    of_state("fixed past p", |r, held| past_phys(r, held, FIXED, LOWEST)),
+    of_state("lowest rate past p", |r, held| {
+        past_phys(r, held, LOWEST, HIGHEST)
+    }),
+    of_state("highest rate past p", |r, held| {
+        past_phys(r, held, HIGHEST, SIZE)
+    }),
+    of_state("SAS address past a", |r, held| past_rows(r, held, 0, 8)),
+    of_state("SAS LUN past a", |r, held| past_rows(r, held, 8, 16)),
+    of_state("OS bytes past a", |r, held| {
+        past_rows(r, held, 16, ROW_SIZE)
     }),
 ];

@@ -1,11 +1,13 @@
-//! Adapters, and their files. A sound adapter is random wherever document 01 leaves a choice.
+//! Adapters, their files and their states. A sound adapter is random wherever document 01 leaves a choice.
 
 mod breaks;
 pub mod damage;
+pub mod form;
 pub mod phy;
 pub mod row;
+mod rules;
 
-use crate::names::{BLOCK, DISK, DRIVER_SIZE, ROW_SIZE};
+use crate::names::{state, BLOCK, DISK, DRIVER_SIZE, ROW_SIZE};
 use crate::random::Random;
 pub use labkit::adapter::{check, file_length, row_at, seal, CHECK_AT, MOST_PHYS, MOST_ROWS};
 use phy::Phy;
@@ -65,9 +67,27 @@ impl Adapter {
         seal(&mut file);
         file
     }
+
+    /// The state that an opening of the file gives at this level.
+    pub fn state(&self, level: u8) -> Vec<u8> {
+        let mut bytes = vec![0; state::SIZE];
+        bytes[state::LEVEL] = level;
+        bytes[state::PHY_COUNT] = self.phys.len() as u8;
+        bytes[state::ROW_COUNT] = self.rows.len() as u8;
+        bytes[state::DRIVER..state::PHYS].copy_from_slice(&self.driver);
+        for (n, phy) in self.phys.iter().enumerate() {
+            let at = state::phy_at(n);
+            bytes[at..at + phy.bytes.len()].copy_from_slice(&phy.bytes);
+        }
+        for (i, row) in self.rows.iter().enumerate() {
+            let at = state::row_at(i);
+            bytes[at..at + ROW_SIZE].copy_from_slice(row);
+        }
+        bytes
+    }
 }
 
-/// Where the block of phy n starts.
+/// Where the block of phy n starts in a file.
 pub fn phy_at(n: usize) -> usize {
     (1 + n) * BLOCK
 }
@@ -92,7 +112,9 @@ mod tests {
         for _ in 0..300 {
             let adapter = Adapter::sound(&mut random);
             let medium = vec![0; adapter.medium_length()];
-            assert_eq!(model::open(b"", &adapter.file(), &medium).0, 0);
+            let (number, opened) = model::open(b"CSMI=Full;", &adapter.file(), &medium);
+            assert_eq!(number, 0);
+            assert_eq!(opened.to_bytes()[..], adapter.state(3));
         }
     }
 }

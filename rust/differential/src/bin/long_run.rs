@@ -1,19 +1,26 @@
-//! `long_run [REQUESTS] [SEED]`: random cases through both implementations until so many requests were handled (a million if not
-//! said), with the properties of whole runs; then every single-byte damage of a small file. Prints the figures; the exit
-//! status is 1 if anything differed.
+//! `long_run [REQUESTS] [SEED]`: random cases through both implementations, by the run and by the two calls, until so many requests were
+//! handled (a million if not said), with the properties of whole runs; then states that a caller made, every single-byte damage of a small
+//! file, and every single byte of two states altered. Prints the figures; the exit status is 1 if anything differed.
 
 use differential::adapter::Adapter;
-use differential::compare::compare;
-use differential::coverage::Coverage;
+use differential::case::Case;
+use differential::compare::{compare, Difference};
+use differential::coverage::{counts, Coverage};
 use differential::random::Random;
-use differential::side::{Case, SIDES};
-use differential::two_runs::{check, check_states, Level, Start};
-use differential::{generate, last_writer, probe, sweep, text};
+use differential::side::{CALLS, SIDES};
+use differential::state::alter::{self, Values};
+use differential::state::made;
+use differential::two_runs::{check, check_denied, check_each, Level, Start};
+use differential::{generate, last_writer, sweep, text};
 use std::process::ExitCode;
 use std::time::Instant;
 
 /// One round in so many tests the claims about whole runs too, on a list of its own.
 const PROPERTIES: u64 = 8;
+/// One state is made for so many requests.
+const STATES: u64 = 10;
+/// The counts p and a of the states whose bytes are altered.
+const ALTERED: [(usize, usize); 2] = [(7, 20), (32, 64)];
 const SHOWN: usize = 20;
 
 /// Says which seed it was if a side panics.
@@ -27,10 +34,15 @@ impl Drop for Seed {
     }
 }
 
-struct Totals {
-    coverage: Coverage,
-    properties: u64,
-    faults: Vec<String>,
+/// What was compared.
+#[derive(Default)]
+struct Compared {
+    /// By the run and by the calls, each once.
+    run_requests: u64,
+    call_requests: u64,
+    openings: u64,
+    alterations: u64,
+    differences: usize,
 }
 
 fn main() -> ExitCode {
@@ -38,11 +50,19 @@ fn main() -> ExitCode {
         eprintln!("use: long_run [REQUESTS] [SEED]");
         return ExitCode::from(2);
     };
-    let random_faults = random_runs(requests, seed);
-    let sweep_faults = single_bytes(seed);
-    let faults = random_faults + sweep_faults;
-    println!("{faults} differences");
-    ExitCode::from(u8::from(faults > 0))
+    let mut compared = Compared::default();
+    compared.random_runs(requests, seed);
+    compared.made_states(requests / STATES, seed);
+    compared.damaged_files(seed);
+    for (p, a) in ALTERED {
+        compared.altered_states(seed, p, a);
+    }
+    println!(
+        "compared: {} requests by the run, {} by the calls, {} openings, {} alterations of a state",
+        compared.run_requests, compared.call_requests, compared.openings, compared.alterations
+    );
+    println!("{} differences", compared.differences);
+    ExitCode::from(u8::from(compared.differences > 0))
 }
 
 fn arguments() -> Option<(u64, u64)> {
@@ -54,41 +74,109 @@ fn arguments() -> Option<(u64, u64)> {
     (given.len() <= 2).then_some((number(0, 1_000_000)?, number(1, 1)?))
 }
 
-fn random_runs(requests: u64, seed: u64) -> usize {
-    let start = Instant::now();
-    let mut totals = Totals {
-        coverage: Coverage::default(),
-        properties: 0,
-        faults: Vec::new(),
-    };
-    let mut round = 0;
-    while totals.coverage.requests < requests {
-        let seed = seed.wrapping_mul(1 << 32).wrapping_add(round);
-        let _named = Seed(seed);
-        totals.compare(seed);
-        if round % PROPERTIES == 0 {
-            totals.properties(seed);
-        }
-        round += 1;
-    }
-    for what in totals.coverage.unknown() {
-        totals
-            .faults
-            .push(format!("unknown to document 01: {what}"));
-    }
-    totals.report(round, start);
-    totals.faults.len()
+/// Seconds since, with one place.
+fn seconds(start: Instant) -> String {
+    format!("{:.1} s", start.elapsed().as_secs_f64())
 }
 
-impl Totals {
+impl Compared {
+    fn random_runs(&mut self, requests: u64, seed: u64) {
+        let start = Instant::now();
+        let mut runs = Runs::default();
+        let mut round = 0;
+        while runs.coverage.requests < requests {
+            let seed = seed.wrapping_mul(1 << 32).wrapping_add(round);
+            let _named = Seed(seed);
+            runs.compare(seed);
+            if round % PROPERTIES == 0 {
+                runs.properties(seed);
+            }
+            round += 1;
+        }
+        for what in runs.coverage.unknown() {
+            runs.faults.push(format!("unknown to document 01: {what}"));
+        }
+        println!(
+            "{} requests in {round} cases, each by the run and by the calls; two runs and last writers of {} lists more; {}",
+            runs.coverage.requests,
+            runs.properties,
+            seconds(start)
+        );
+        println!("{}", runs.coverage);
+        self.run_requests += runs.coverage.requests;
+        self.call_requests += runs.coverage.requests;
+        self.openings += round;
+        self.differ(&runs.faults);
+    }
+
+    fn made_states(&mut self, count: u64, seed: u64) {
+        let start = Instant::now();
+        let made = made::run(seed, count);
+        println!(
+            "{} states that a caller made: {} requests; {}",
+            made.states,
+            made.requests,
+            seconds(start)
+        );
+        println!("calls     {}", counts(&made.calls));
+        self.call_requests += made.requests;
+        self.differ(&made.differences);
+    }
+
+    fn damaged_files(&mut self, seed: u64) {
+        let start = Instant::now();
+        let sweep = sweep::run(seed, 2, 3, 1);
+        println!(
+            "single bytes of a file damaged: {} openings, {} accepted; {}",
+            sweep.openings,
+            sweep.accepted,
+            seconds(start)
+        );
+        println!("{}", sweep.coverage.openings_met());
+        self.openings += sweep.openings;
+        self.differ(&sweep.differences);
+    }
+
+    fn altered_states(&mut self, seed: u64, p: usize, a: usize) {
+        let start = Instant::now();
+        let done = alter::run(seed, p, a, Values::Every);
+        println!(
+            "single bytes of a state altered, p {p} and a {a}: {} alterations, {} sound, {} requests; {}",
+            done.alterations,
+            done.sound,
+            done.requests,
+            seconds(start)
+        );
+        self.call_requests += done.requests;
+        self.alterations += done.alterations;
+        self.differ(&done.differences);
+    }
+
+    fn differ<T: std::fmt::Display>(&mut self, differences: &[T]) {
+        self.differences += differences.len();
+        for difference in differences.iter().take(SHOWN) {
+            println!("DIFFERENCE {difference}");
+        }
+    }
+}
+
+/// The random cases.
+#[derive(Default)]
+struct Runs {
+    coverage: Coverage,
+    properties: u64,
+    faults: Vec<String>,
+}
+
+impl Runs {
     fn compare(&mut self, seed: u64) {
         let case = generate::case(seed, 120);
         match compare(&case) {
             Ok(outcome) => self.coverage.count(&case, &outcome),
-            Err(difference) => {
+            Err(Difference { seed, what }) => {
                 // So that a run in which everything differs ends too.
                 self.coverage.requests += 1;
-                self.faults.push(difference.to_string());
+                self.faults.push(format!("seed {seed}: {what}"));
             }
         }
     }
@@ -105,31 +193,23 @@ impl Totals {
         let high = Level::of_number(random, high);
         let start = Start {
             seed,
-            adapter: &adapter,
             file: &opening.file,
             medium: &opening.medium,
             requests: &requests,
         };
+        let case = Case::of_requests(seed, &high.text, &opening.file, &opening.medium, &requests);
         for side in SIDES {
             let name = format!("seed {seed}, {side:?}");
-            self.note(
-                &format!("{name}, two runs"),
-                check(side, &start, &low, &high).map(drop),
-            );
-            let asked = [&requests[..], &[probe::phy_info()]].concat();
-            let case = Case::of_requests(seed, &high.text, &opening.file, &opening.medium, &asked);
-            let outcome = side.run(&case);
-            self.note(
-                &format!("{name}, last writer"),
-                last_writer::check_medium(&case, &outcome),
-            );
-            let rates = last_writer::check_rates(&case, &outcome).map(drop);
+            let denied = check(side, &start, &low, &high).map(drop);
+            self.note(&format!("{name}, two runs"), denied);
+            let rates = last_writer::check(&case, &side.run(&case)).map(drop);
             self.note(&format!("{name}, last writer"), rates);
         }
-        self.note(
-            &format!("seed {seed}, states"),
-            check_states(&start, &low, &high),
-        );
+        for side in CALLS {
+            let name = format!("seed {seed}, {side:?}, two runs by calls");
+            self.note(&name, check_each(side, &start, &low, &high));
+        }
+        self.note(&format!("seed {seed}, denied"), check_denied(&start, &low));
     }
 
     fn note(&mut self, name: &str, result: Result<(), String>) {
@@ -137,33 +217,4 @@ impl Totals {
             self.faults.push(format!("{name}: {what}"));
         }
     }
-
-    fn report(&self, cases: u64, start: Instant) {
-        println!(
-            "{} requests in {cases} cases, two runs and last writers of {} more, {:.1} s",
-            self.coverage.requests,
-            self.properties,
-            start.elapsed().as_secs_f64()
-        );
-        println!("{}", self.coverage);
-        for fault in self.faults.iter().take(SHOWN) {
-            println!("DIFFERENCE {fault}");
-        }
-    }
-}
-
-fn single_bytes(seed: u64) -> usize {
-    let start = Instant::now();
-    let sweep = sweep::run(seed, 2, 3, 1);
-    println!(
-        "single bytes of a file damaged: {} openings, {} accepted and probed, {:.1} s",
-        sweep.openings,
-        sweep.accepted,
-        start.elapsed().as_secs_f64()
-    );
-    println!("{}", sweep.coverage.openings_met());
-    for difference in sweep.differences.iter().take(SHOWN) {
-        println!("DIFFERENCE {difference}");
-    }
-    sweep.differences.len()
 }

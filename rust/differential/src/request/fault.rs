@@ -2,7 +2,7 @@
 
 use super::fis::{DEVICE, LBA_BIT};
 use crate::adapter::Adapter;
-use crate::names::{body_size, code, header, stp};
+use crate::names::{body_size, code, header, stp, PROGRAM_LONGEST};
 use crate::random::Random;
 use crate::wire::{put_word, word};
 
@@ -100,6 +100,29 @@ fn length(random: &mut Random, request: &mut Vec<u8>) {
         let more = random.within(1, 40);
         request.extend(random.bytes(more));
         put_word(request, header::LENGTH, inside + more as u32);
+    }
+}
+
+/// Bytes behind the buffer, up to a length near the program's limit or above it; sometimes Length takes them in, and of a passthrough
+/// uDataLength. No rule forbids them.
+pub fn lengthen(random: &mut Random, request: &mut Vec<u8>) {
+    let length = random.pick(&[
+        PROGRAM_LONGEST - 1,
+        PROGRAM_LONGEST,
+        PROGRAM_LONGEST + 1,
+        2 * PROGRAM_LONGEST + 1,
+        100_000,
+    ]);
+    let more = length.saturating_sub(request.len());
+    request.extend(random.bytes(more));
+    if request.len() < header::SIZE + stp::DATA || random.one_in(2) {
+        return;
+    }
+    let inside = request.len() - header::SIZE;
+    put_word(request, header::LENGTH, inside as u32);
+    if word(request, header::CONTROL_CODE) == code::STP_PASSTHRU && random.one_in(2) {
+        let data = (inside - stp::DATA) as u32;
+        put_word(request, header::SIZE + stp::DATA_LENGTH, data);
     }
 }
 

@@ -38,7 +38,7 @@ pub fn any_code(random: &mut Random) -> u32 {
     }
 }
 
-/// Any request: two of three are sound.
+/// Any request: two of three are sound. A few are longer than the program takes.
 pub fn any(random: &mut Random, adapter: &Adapter) -> Vec<u8> {
     let control = any_code(random);
     let mut request = sound(random, adapter, control);
@@ -50,6 +50,9 @@ pub fn any(random: &mut Random, adapter: &Adapter) -> Vec<u8> {
             fault::in_either(random, adapter, &mut request);
             fault::in_either(random, adapter, &mut request);
         }
+    }
+    if random.one_in(60) {
+        fault::lengthen(random, &mut request);
     }
     request
 }

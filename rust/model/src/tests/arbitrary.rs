@@ -6,21 +6,25 @@ use crate::state::{Phy, Row, State};
 use crate::{denied, fields, open, request};
 
 /// A small generator of numbers, the same at each run.
-struct Numbers(u64);
+pub struct Numbers(u64);
 
 impl Numbers {
-    fn next(&mut self) -> u32 {
+    pub fn new(seed: u64) -> Numbers {
+        Numbers(seed)
+    }
+
+    pub fn next(&mut self) -> u32 {
         self.0 ^= self.0 << 13;
         self.0 ^= self.0 >> 7;
         self.0 ^= self.0 << 17;
         (self.0 >> 16) as u32
     }
 
-    fn below(&mut self, bound: usize) -> usize {
+    pub fn below(&mut self, bound: usize) -> usize {
         self.next() as usize % bound
     }
 
-    fn byte(&mut self) -> u8 {
+    pub fn byte(&mut self) -> u8 {
         // values at the edges of rules, half the time
         const EDGES: [u8; 16] = [
             0, 1, 2, 3, 4, 5, 8, 9, 0x10, 0x20, 0x30, 0x40, 0x88, 0x98, 0x99, 0xFF,
@@ -31,8 +35,12 @@ impl Numbers {
         }
     }
 
-    fn bytes(&mut self, length: usize) -> Vec<u8> {
+    pub fn bytes(&mut self, length: usize) -> Vec<u8> {
         (0..length).map(|_| self.byte()).collect()
+    }
+
+    pub fn array<const N: usize>(&mut self) -> [u8; N] {
+        std::array::from_fn(|_| self.byte())
     }
 
     /// A body for the code, near to one that is served.
@@ -65,7 +73,7 @@ impl Numbers {
 
 #[test]
 fn requests_keep_the_state_sound() {
-    let mut numbers = Numbers(0x1234_5678_9ABC_DEF1);
+    let mut numbers = Numbers::new(0x1234_5678_9ABC_DEF1);
     let (mut state, mut disk) = (sample(), medium(5));
     let mut served = 0;
     for _ in 0..60_000 {
@@ -103,7 +111,7 @@ fn requests_keep_the_state_sound() {
 
 #[test]
 fn any_state_and_buffer() {
-    let mut numbers = Numbers(0xFEED_0000_0000_0001);
+    let mut numbers = Numbers::new(0xFEED_0000_0000_0001);
     for _ in 0..20_000 {
         let mut state = if numbers.below(2) == 0 {
             sample()
@@ -142,7 +150,7 @@ fn spoil(state: &mut State, numbers: &mut Numbers) {
 
 #[test]
 fn any_file() {
-    let mut numbers = Numbers(0xABCD_EF01_2345_6789);
+    let mut numbers = Numbers::new(0xABCD_EF01_2345_6789);
     let sound = file(&sample());
     for _ in 0..20_000 {
         let mut blocks = sound.as_chunks::<BLOCK>().0.to_vec();

@@ -1,10 +1,9 @@
 -- `dispatch::handle::check_and_serve` meets its contract. Assumes nothing.
-use Rattle.change.specs.Laws.{below-kept}
-use Rattle.dispatch.specs.Laws.{refused-by}
-use Rattle.dispatch.specs.Request.{answered}
 use Rattle.header.specs.Laws.{access-room}
-use Rattle.laws.specs.Choice.{picks}
+use Rattle.dispatch.specs.Request.{answered}
+use Rattle.dispatch.specs.Laws.{refused-by}
 use borrow.Author.Needs.{needs}
+use Rattle.laws.specs.Choice.{picks}
 use Rattle.dispatch.proofs.handle.check_and_serve.Statement.{statement}
 use Rattle.dispatch.proofs.handle.check_and_serve.Tie as tie
 
@@ -12,4 +11,6 @@ pub check-and-serve-spec : {M : Type 1} → statement M
 unfolding answered
 check-and-serve-spec =
     tie.close
-    (tie.spec (λ c κs. search needs) (λ c κs. (search needs, (search needs, (search needs, (search needs, search (access-room, needs)))))) (λ c. search needs) (λ c. search needs) (λ c. (search picks, search needs)) (λ c κs. search needs) (λ c. search needs) (λ c. (search (refused-by, picks), search (below-kept, needs))))
+    (tie.spec (λ c κs. search needs)
+    (λ c κs. (search needs, (search needs, (search needs, (search needs, search (access-room, needs)))))) (λ c. search needs)
+    (λ c. search needs) (λ c. search needs) (λ c. search picks) (λ c. search needs) (λ c. search (refused-by, picks)))

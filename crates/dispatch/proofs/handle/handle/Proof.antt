@@ -1,10 +1,16 @@
 -- `dispatch::handle::handle` meets its contract. Assumes nothing.
-use Rattle.dispatch.specs.Laws.{state-by}
+use Rattle.dispatch.specs.Laws.{heard-state, heard-medium, heard-buffer, untouched-by}
+use Rattle.dispatch.specs.Request.{handled}
 use borrow.Author.Needs.{needs}
+use Rattle.laws.specs.Choice.{picks}
 use Rattle.dispatch.proofs.handle.handle.Statement.{statement}
 use Rattle.dispatch.proofs.handle.handle.Tie as tie
 
 pub handle-spec : {M : Type 1} → statement M
+unfolding handled
 handle-spec =
     tie.close
-    (tie.spec (λ c κs. search needs) (λ c κs. search needs) (λ c. search needs) (λ c. search needs) (λ c. search (state-by, needs)))
+    (tie.spec (λ c κs. search needs)
+    (λ c κs. (search needs, (search (heard-state, needs), (search (heard-medium, needs), search (heard-buffer, needs)))))
+    (λ c. search needs) (λ c. search needs) (λ c. search needs) (λ c. search (untouched-by, picks)) (λ c. search needs)
+    (λ c. search (untouched-by, picks)))

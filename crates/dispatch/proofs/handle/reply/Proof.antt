@@ -1,5 +1,6 @@
 -- `dispatch::handle::reply` meets its contract. Assumes nothing.
-use Rattle.dispatch.specs.Laws.{reply-by}
+use Rattle.state.specs.Laws.{lent-size}
+use Rattle.dispatch.specs.Laws.{lent-phys, lent-rows, lent-medium, reply-back}
 use borrow.Author.Needs.{needs}
 use Rattle.dispatch.proofs.handle.reply.Statement.{statement}
 use Rattle.dispatch.proofs.handle.reply.Tie as tie
@@ -7,4 +8,6 @@ use Rattle.dispatch.proofs.handle.reply.Tie as tie
 pub reply-spec : {M : Type 1} → statement M
 reply-spec =
     tie.close
-    (tie.spec (λ c κs. search needs) (λ c κs. search needs) (λ c. search needs) (λ c. search needs) (λ c. (search (reply-by, needs), search needs)))
+    (tie.spec (λ c. search needs) (λ c. search needs) (λ c. search needs) (λ c. search needs)
+    (λ c κs. (search (lent-size, needs), ((search (lent-phys, needs), search (lent-rows, needs)), (search (lent-medium, needs), search needs))))
+    (λ c. search needs) (λ c. search needs) (λ c. search needs) (λ c. (search (reply-back, needs), search needs)))

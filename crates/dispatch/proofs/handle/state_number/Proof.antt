@@ -1,7 +1,7 @@
 -- `dispatch::handle::state_number` meets its contract. Assumes nothing.
 use Rattle.dispatch.specs.Request.{stateNumber}
-use Rattle.laws.specs.Choice.{picks}
 use borrow.Author.Needs.{needs}
+use Rattle.laws.specs.Choice.{picks}
 use Rattle.dispatch.proofs.handle.state_number.Statement.{statement}
 use Rattle.dispatch.proofs.handle.state_number.Tie as tie
 

@@ -7,4 +7,5 @@ use Rattle.exports.proofs.session.handle_sized.Tie as tie
 pub handle-sized-spec : {M : Type 1} → statement M
 handle-sized-spec =
     tie.close
-    (tie.spec (λ c. search needs) (λ c. search needs) (λ c. search needs) (λ c κs. search needs) (λ c. search needs) (λ c. search needs) (λ c. search needs) (λ c. (search (sized-left, needs), search needs)))
+    (tie.spec (λ c. search needs) (λ c. search needs) (λ c. search needs) (λ c κs. search needs) (λ c. search needs)
+    (λ c. search needs) (λ c. search needs) (λ c. search needs) (λ c. search (sized-left, needs)))

@@ -1,11 +1,11 @@
 -- `file::parse::parse` meets its contract. Assumes nothing.
-use Rattle.file.specs.File.{adapterOf}
+use Rattle.file.specs.Parse.{parsed}
 use borrow.Author.Needs.{needs}
 use Rattle.file.proofs.parse.parse.Statement.{statement}
 use Rattle.file.proofs.parse.parse.Tie as tie
 
 pub parse-spec : {M : Type 1} → statement M
-unfolding adapterOf
 parse-spec =
     tie.close
-    (tie.spec (λ c κs. search needs) (λ c κs. search needs) (λ c κs. search needs) (λ c. cc))
+    (tie.spec (λ c κs. search needs) (λ c κs. search needs) (λ c κs. search needs) (λ c. search needs)
+    (λ c. search (parsed, needs)))

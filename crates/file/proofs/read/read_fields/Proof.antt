@@ -7,5 +7,5 @@ use Rattle.file.proofs.read.read_fields.Tie as tie
 pub read-fields-spec : {M : Type 1} → statement M
 read-fields-spec =
     tie.close
-    (tie.spec (λ c κs. search needs) (λ c κs. search needs) (λ c κs. search (count-read, needs))
-    (λ c κs. search needs) (λ c. cc))
+    (tie.spec (λ c κs. search needs) (λ c κs. (search needs, (search needs, search (count-read, needs))))
+    (λ c κs. search needs) (λ c. search needs) (λ c. cc))

@@ -8,4 +8,4 @@ pub all-negotiated-spec : {M : Type 1} → statement M
 unfolding negotiatedAll
 all-negotiated-spec =
     tie.close
-    (tie.spec (λ c. search needs) (λ c κs. search needs) (λ c. cc))
+    (tie.spec (λ c κs. search needs) (λ c κs. search needs) (λ c. cc))

@@ -1,7 +1,7 @@
 -- `passthrough::pass::connect` meets its contract. Assumes nothing.
+use Rattle.passthrough.specs.Passthrough.{sentTo}
 use borrow.Author.Needs.{needs}
 use Rattle.laws.specs.Choice.{picks}
-use Rattle.passthrough.specs.Passthrough.{sentTo}
 use Rattle.passthrough.proofs.pass.connect.Statement.{statement}
 use Rattle.passthrough.proofs.pass.connect.Tie as tie
 

@@ -1,6 +1,6 @@
 -- `passthrough::pass::is_connected` meets its contract. Assumes nothing.
-use borrow.Author.Needs.{needs}
 use Rattle.laws.specs.Splice.{part}
+use borrow.Author.Needs.{needs}
 use Rattle.passthrough.proofs.pass.is_connected.Statement.{statement}
 use Rattle.passthrough.proofs.pass.is_connected.Tie as tie
 

@@ -1,7 +1,7 @@
 -- `passthrough::pass::pass_through` meets its contract. Assumes nothing.
+use Rattle.passthrough.specs.Passthrough.{passthrough}
 use borrow.Author.Needs.{needs}
 use Rattle.laws.specs.Choice.{picks}
-use Rattle.passthrough.specs.Passthrough.{passthrough}
 use Rattle.passthrough.proofs.pass.pass_through.Statement.{statement}
 use Rattle.passthrough.proofs.pass.pass_through.Tie as tie
 

@@ -1,9 +1,9 @@
 -- `passthrough::pass::pass_to` meets its contract. Assumes nothing.
+use Rattle.select.specs.Laws.{selected-phy}
+use Rattle.passthrough.specs.Laws.{selected-disk}
+use Rattle.passthrough.specs.Passthrough.{passedTo}
 use borrow.Author.Needs.{needs}
 use Rattle.laws.specs.Choice.{picks}
-use Rattle.passthrough.specs.Laws.{selected-disk}
-use Rattle.select.specs.Laws.{selected-phy}
-use Rattle.passthrough.specs.Passthrough.{passedTo}
 use Rattle.passthrough.proofs.pass.pass_to.Statement.{statement}
 use Rattle.passthrough.proofs.pass.pass_to.Tie as tie
 
@@ -11,5 +11,5 @@ pub pass-to-spec : {M : Type 1} → statement M
 unfolding passedTo
 pass-to-spec =
     tie.close
-    (tie.spec (λ c κs. search (selected-phy, selected-disk, needs)) (λ c. search needs) (λ c. search needs)
-    (λ c. search picks) (λ c. search picks))
+    (tie.spec (λ c κs. (search (selected-phy, needs), (search needs, (search (selected-disk, needs), search needs))))
+    (λ c. search needs) (λ c. search needs) (λ c. search picks) (λ c. search picks))

@@ -1,7 +1,7 @@
 -- `reports::device_address::give_device` meets its contract. Assumes nothing.
+use Rattle.reports.specs.DeviceAddress.{deviceBytes}
 use borrow.Author.Needs.{needs}
 use Rattle.laws.specs.Choice.{picks}
-use Rattle.reports.specs.DeviceAddress.{deviceBytes}
 use Rattle.reports.proofs.device_address.give_device.Statement.{statement}
 use Rattle.reports.proofs.device_address.give_device.Tie as tie
 
@@ -9,5 +9,4 @@ pub give-device-spec : {M : Type 1} → statement M
 unfolding deviceBytes
 give-device-spec =
     tie.close
-    (tie.spec (λ c. search needs) (λ c. search needs) (λ c κs. search needs) (λ c. search needs) (λ c. search picks)
-    (λ c. search picks))
+    (tie.spec (λ c κs. search needs) (λ c. search needs) (λ c. search picks) (λ c. search picks))

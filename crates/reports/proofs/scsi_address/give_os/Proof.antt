@@ -1,7 +1,7 @@
 -- `reports::scsi_address::give_os` meets its contract. Assumes nothing.
+use Rattle.reports.specs.ScsiAddress.{osBytes}
 use borrow.Author.Needs.{needs}
 use Rattle.laws.specs.Choice.{picks}
-use Rattle.reports.specs.ScsiAddress.{osBytes}
 use Rattle.reports.proofs.scsi_address.give_os.Statement.{statement}
 use Rattle.reports.proofs.scsi_address.give_os.Tie as tie
 
@@ -9,5 +9,4 @@ pub give-os-spec : {M : Type 1} → statement M
 unfolding osBytes
 give-os-spec =
     tie.close
-    (tie.spec (λ c. search needs) (λ c. search needs) (λ c κs. search needs) (λ c. search needs) (λ c. search picks)
-    (λ c. search picks))
+    (tie.spec (λ c κs. search needs) (λ c. search needs) (λ c. search picks) (λ c. search picks))

@@ -1,7 +1,8 @@
 -- `reports::signature::get_signature` meets its contract. Assumes nothing.
+use Rattle.tables.specs.Laws.{exists-below}
+use Rattle.reports.specs.Signature.{sataSignature}
 use borrow.Author.Needs.{needs}
 use Rattle.laws.specs.Choice.{picks}
-use Rattle.reports.specs.Signature.{sataSignature}
 use Rattle.reports.proofs.signature.get_signature.Statement.{statement}
 use Rattle.reports.proofs.signature.get_signature.Tie as tie
 
@@ -9,5 +10,5 @@ pub get-signature-spec : {M : Type 1} → statement M
 unfolding sataSignature
 get-signature-spec =
     tie.close
-    (tie.spec (λ c. search needs) (λ c. search needs) (λ c κs. search needs) (λ c. search needs) (λ c. search picks)
-    (λ c. search picks))
+    (tie.spec (λ c. search needs) (λ c κs. search needs) (λ c. search needs)
+    (λ c κs. (search exists-below, (search needs, search needs))) (λ c. search needs) (λ c. search picks) (λ c. search picks))

@@ -8,4 +8,4 @@ pub are-apart-spec : {M : Type 1} → statement M
 unfolding apart
 are-apart-spec =
     tie.close
-    (tie.spec (λ c. search needs) (λ c κs. search needs) (λ c. search needs) (λ c κs. search needs) (λ c. cc))
+    (tie.spec (λ c κs. search needs) (λ c κs. search needs) (λ c. cc))

@@ -7,13 +7,14 @@ use Rattle.simulator.proofs.session.run.Statement.{statement}
 use Rattle.simulator.proofs.session.run.Tie as tie
 
 abbrev Inv-loop : tie.InvT-loop
-Inv-loop medium₀ state₀ number₀ medium state number = (number ≤ 18446744073709551615) × (length medium ≡ length medium₀)
+Inv-loop state₀ medium₀ number₀ state medium number = (number ≤ 18446744073709551615) × (length state ≡ length state₀) × (length medium ≡ length medium₀)
 
 abbrev μ-loop : tie.MeasureT-loop
-μ-loop medium₀ state₀ number₀ medium state number = 18446744073709551615 - number
+μ-loop state₀ medium₀ number₀ state medium number = 18446744073709551615 - number
 
 pub run-spec : {M : Type 1} → statement M
 run-spec =
     tie.close
     (tie.spec Inv-loop μ-loop (λ c. search needs) (λ c κs. search needs) (λ c. search needs) (λ c. search needs)
-    (λ c. search needs) (λ c. search needs) (λ c. search needs) (λ c. search needs) (λ c. search needs))
+    (λ c. search needs) (λ c. search needs) (λ c. search needs) (λ c. search needs) (λ c. search needs) (λ c. search needs)
+    (λ c. search needs))

@@ -1,12 +1,10 @@
 -- `state::opening::open_file` meets its contract. Assumes nothing.
+use Rattle.state.specs.Laws.{file-settled}
 use borrow.Author.Needs.{needs}
-use Rattle.state.specs.Laws.{file-phys, file-rows, file-opened, file-refused}
 use Rattle.state.proofs.opening.open_file.Statement.{statement}
 use Rattle.state.proofs.opening.open_file.Tie as tie
 
 pub open-file-spec : {M : Type 1} → statement M
 open-file-spec =
     tie.close
-    (tie.spec (λ c κs. search needs) (λ c κs. search (file-phys, file-rows, needs))
-    (λ c. search (file-opened, file-refused, needs)) (λ c κs. search needs)
-    (λ c. search (file-opened, file-refused, needs)))
+    (tie.spec (λ c κs. search needs) (λ c κs. search needs) (λ c. search needs) (λ c. search (file-settled, needs)))

@@ -1,0 +1,11 @@
+-- `file::parse::fill_head` meets its contract. Assumes nothing.
+use Rattle.file.specs.Parse.{headed}
+use borrow.Author.Needs.{needs}
+use Rattle.file.proofs.parse.fill_head.Statement.{statement}
+use Rattle.file.proofs.parse.fill_head.Tie as tie
+
+pub fill-head-spec : {M : Type 1} → statement M
+unfolding headed
+fill-head-spec =
+    tie.close
+    (tie.spec (λ c. search needs) (λ c κs. search needs) (λ c κs. search needs) (λ c. search needs) (λ c. cc))

@@ -1,0 +1,10 @@
+-- `file::rows_of::put_row` meets its contract. Assumes nothing.
+use Rattle.file.specs.Parse.{row-copied, row-length}
+use borrow.Author.Needs.{needs}
+use Rattle.file.proofs.rows_of.put_row.Statement.{statement}
+use Rattle.file.proofs.rows_of.put_row.Tie as tie
+
+pub put-row-spec : {M : Type 1} → statement M
+put-row-spec =
+    tie.close
+    (tie.spec (λ c κs. search needs) (λ c κs. search needs) (λ c. search needs) (λ c. search (row-copied, row-length, needs)))

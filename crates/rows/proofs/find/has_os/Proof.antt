@@ -1,0 +1,11 @@
+-- `rows::find::has_os` meets its contract. Assumes nothing.
+use Rattle.rows.specs.Read.{os-compared, os-unlike-by}
+use borrow.Author.Needs.{needs}
+use Rattle.rows.proofs.find.has_os.Statement.{statement}
+use Rattle.rows.proofs.find.has_os.Tie as tie
+
+pub has-os-spec : {M : Type 1} → statement M
+has-os-spec =
+    tie.close
+    (tie.spec (λ c κs. search needs) (λ c. search needs) (λ c. search needs) (λ c. search needs) (λ c. search needs)
+    (λ c κs. search needs) (λ c. search (os-compared, needs)) (λ c. search (os-unlike-by, needs)))

@@ -1,0 +1,11 @@
+-- `rows::find::put_os` meets its contract. Assumes nothing.
+use Rattle.rows.specs.Read.{os-put}
+use borrow.Author.Needs.{needs}
+use Rattle.rows.proofs.find.put_os.Statement.{statement}
+use Rattle.rows.proofs.find.put_os.Tie as tie
+
+pub put-os-spec : {M : Type 1} → statement M
+put-os-spec =
+    tie.close
+    (tie.spec (λ c κs. search needs) (λ c. search needs) (λ c κs. search needs) (λ c. search needs)
+    (λ c. search (os-put, needs)))

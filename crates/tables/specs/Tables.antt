@@ -1,0 +1,40 @@
+-- The tables and counters that lent bytes stand for (document 01, "The state is the level and what the file holds, zero past p and a"; the
+-- level stands before them, apart). 4,784 bytes, each of them named here: p, a, the driver info, 32 phys of 104 bytes, each as the first 104 of its
+-- block in the adapter file, and 64 rows of 20. Every list of that length stands for an adapter. Assumes nothing.
+use mathlib.Core.List.{List}
+use Prim.Native.Nat.{ℕ, _+_, _*_}
+use lib.ListN.{getD}
+use Rattle.laws.specs.Fill.{listTo}
+use Rattle.laws.specs.Splice.{part}
+use Rattle.phy.specs.declared.Phy.{Phy}
+use Rattle.phy.specs.Block.{phyOf}
+use Rattle.rows.specs.Row.{rowsSize, rowsOf}
+use Rattle.adapter.specs.Adapter.{Adapter}
+
+abbrev pub tablesSize : ℕ
+tablesSize = 4784
+
+-- where the driver info, phy n and the rows start
+abbrev pub infoStart : ℕ
+infoStart = 2
+
+abbrev pub phyStart : ℕ → ℕ
+phyStart n = 176 + 104 * n
+
+abbrev pub rowsStart : ℕ
+rowsStart = 3504
+
+-- phy n of the bytes
+unfoldable pub phyAt : List ℕ → ℕ → Phy
+phyAt t n = phyOf (part t (phyStart n) 104)
+
+-- the adapter of the bytes
+unfoldable pub tablesOf : List ℕ → Adapter
+tablesOf t =
+    record {
+      «phy_count» = getD t 0 0;
+      «row_count» = getD t 1 0;
+      info = part t infoStart 174;
+      phys = listTo (phyAt t) 32;
+      rows = rowsOf (part t rowsStart rowsSize);
+    }

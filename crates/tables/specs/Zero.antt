@@ -1,0 +1,45 @@
+-- Bytes that are 0 stand for the zero adapter. Assumes nothing.
+use mathlib.Core.Path.{_≡_, refl, sym, _∙_, ap}
+use Prim.Native.Nat.{ℕ, _+_, _<_, _≤_}
+use native.Mathlib.Omega.{arith}
+use lib.ListN.{replicate, getD-replicate}
+use Rattle.laws.specs.Clear.{zeros}
+use Rattle.laws.specs.Fill.{listTo, padded-none, filled-as}
+use Rattle.laws.specs.Splice.{part, part-replicate}
+use Rattle.wire.specs.Number.{number}
+use Rattle.phy.specs.Block.{countersAt, phyOf, zeroPhy}
+use Rattle.rows.specs.Row.{rowOf, rowsSize, rowStart, rowsOf, zeroRow}
+use Rattle.adapter.specs.Adapter.{zeroAdapter}
+use Rattle.tables.specs.Tables.{tablesSize, phyStart, rowsStart, phyAt, tablesOf}
+
+-- a phy and a row
+pub phy-zeros : phyOf (zeros 104) ≡ zeroPhy
+unfolding zeroPhy phyOf countersAt number part
+phy-zeros = refl
+
+pub row-zeros : (m at : ℕ) → at + 20 ≤ m → rowOf (zeros m) at ≡ zeroRow
+unfolding rowOf
+row-zeros m at h = rw (part-replicate {A = ℕ} m at 16 0 (omega arith), part-replicate {A = ℕ} m (at + 16) 4 0 (omega arith))
+
+-- a list that is z at each place
+all-same : {A : Type 0} (f : ℕ → A) (N : ℕ) (z : A) → ((i : ℕ) → i < N → f i ≡ z) → listTo f N ≡ replicate N z
+all-same f N z h = filled-as f f 0 N z z (omega arith) (λ i l. refl) (λ i k l. h i l) ∙ sym (padded-none f N z)
+
+phys-zeros : listTo (phyAt (zeros tablesSize)) 32 ≡ replicate 32 zeroPhy
+unfolding phyAt
+phys-zeros =
+    all-same (phyAt (zeros tablesSize)) 32 zeroPhy
+    (λ i l. ap phyOf (part-replicate tablesSize (phyStart i) 104 0 (omega arith)) ∙ phy-zeros)
+
+rows-zeros : rowsOf (part (zeros tablesSize) rowsStart rowsSize) ≡ replicate 64 zeroRow
+unfolding rowsOf
+rows-zeros =
+    ap rowsOf (part-replicate tablesSize rowsStart rowsSize 0 (omega arith))
+    ∙ all-same (λ (i : ℕ). rowOf (zeros rowsSize) (rowStart i)) 64 zeroRow (λ i l. row-zeros rowsSize (rowStart i) (omega arith))
+
+pub zero-tables : tablesOf (zeros tablesSize) ≡ zeroAdapter
+unfolding tablesOf zeroAdapter
+zero-tables =
+    let p = getD-replicate {A = ℕ} tablesSize 0 0 0 (omega arith) in
+    let a = getD-replicate {A = ℕ} tablesSize 1 0 0 (omega arith) in
+    cc (phys-zeros, rows-zeros, part-replicate {A = ℕ} tablesSize 2 174 0 (omega arith))

@@ -1,0 +1,120 @@
+//! The rules of counts, fields and rows, which a file and a state keep: each broken alone.
+
+use super::breaks::*;
+use super::damage::{field, row, Damage};
+use super::phy::Phy;
+use super::row::OS;
+use super::{MOST_PHYS, MOST_ROWS};
+use crate::names::phy::*;
+use crate::names::ROW_SIZE;
+
+fn no_device(phy: &Phy) -> bool {
+    !phy.has_device()
+}
+
+fn other_device(phy: &Phy) -> bool {
+    phy.has_device() && !phy.is_sata()
+}
+
+pub const RULES: &[Damage] = &[
+    field("no phys", |_, held| set(held, held.phy_count(), 0)),
+    field("too many phys", |r, held| {
+        set(held, held.phy_count(), r.within(MOST_PHYS + 1, 255) as u8)
+    }),
+    field("too many rows", |r, held| {
+        set(held, held.row_count(), r.within(MOST_ROWS + 1, 255) as u8)
+    }),
+    field("phy identifier", |r, held| {
+        in_phy(r, held, IDENTIFIER, |r, _, was| r.other_than(was))
+    }),
+    field("signal class", |r, held| {
+        in_phy(r, held, CLASS, |r, _, _| r.within(4, 255) as u8)
+    }),
+    field("port identifier", |r, held| {
+        in_phy(r, held, PORT, |r, p, _| r.within(p, 255) as u8)
+    }),
+    field("minimum rate code", |r, held| {
+        rates(r, held, |r, min, max| (bad_code(r, min), max))
+    }),
+    field("maximum rate code", |r, held| {
+        rates(r, held, |r, min, max| (min, bad_code(r, max)))
+    }),
+    field("programmed below hardware", |r, held| {
+        rates(r, held, |_, _, _| (0x89, 0x99))
+    }),
+    field("programmed above hardware", |r, held| {
+        rates(r, held, |_, _, _| (0x88, 0x98))
+    }),
+    field("programmed inverted", |r, held| {
+        rates(r, held, |_, _, _| (0x98, 0x89))
+    }),
+    field("hardware inverted", |r, held| {
+        rates(r, held, |_, _, _| (0x99, 0x88))
+    }),
+    field("attached device type", |r, held| {
+        let at = place(r, held, |phy| phy.has_device() && !holds(phy))?;
+        set(held, at + ATTACHED_TYPE, bad_type(r))
+    }),
+    field("attached bytes of no device", |r, held| {
+        let at = place(r, held, no_device)?;
+        spoil(r, held, at + ATTACHED + 1, at + ENTITY_SIZE)
+    }),
+    field("signature bytes of no device", |r, held| {
+        let at = place(r, held, no_device)?;
+        spoil(r, held, at + SIGNATURE, at + HELD)
+    }),
+    field("signature held by no device", |r, held| {
+        let at = place(r, held, no_device)?;
+        set(held, at + HELD, 1)
+    }),
+    field("lowest rate of no device", |r, held| {
+        let at = place(r, held, no_device)?;
+        set(held, at + LOWEST, r.pick(&[1, 8, 9, 255]))
+    }),
+    field("highest rate of no device", |r, held| {
+        let at = place(r, held, no_device)?;
+        set(held, at + HIGHEST, r.pick(&[1, 8, 9, 255]))
+    }),
+    field("device rate code", |r, held| {
+        device_rates(
+            r,
+            held,
+            &[
+                (7, 9),
+                (0, 8),
+                (8, 10),
+                (0, 0),
+                (9, 255),
+                (10, 11),
+                (9, 137),
+            ],
+        )
+    }),
+    field("device rates inverted", |r, held| {
+        device_rates(r, held, &[(9, 8)])
+    }),
+    field("signature held", |r, held| {
+        let at = place(r, held, holds)?;
+        set(held, at + HELD, r.within(2, 255) as u8)
+    }),
+    field("fixed", |r, held| {
+        in_phy(r, held, FIXED, |r, _, _| r.within(2, 255) as u8)
+    }),
+    field("signature held without SATA", |r, held| {
+        let at = place(r, held, other_device)?;
+        set(held, at + HELD, 1)
+    }),
+    field("signature bytes without SATA", |r, held| {
+        let at = place(r, held, other_device)?;
+        spoil(r, held, at + SIGNATURE, at + HELD)
+    }),
+    field("signature bytes not held", |r, held| {
+        let at = place(r, held, |phy| phy.is_sata() && !holds(phy))?;
+        spoil(r, held, at + SIGNATURE, at + HELD)
+    }),
+    field("negotiated rate", negotiated),
+    row("shared SAS address and LUN", |r, held| {
+        share(r, held, 0, OS)
+    }),
+    row("shared OS bytes", |r, held| share(r, held, OS, ROW_SIZE)),
+];

@@ -1,0 +1,71 @@
+//! A case: everything that a run gets, and everything that it gives.
+
+use crate::session;
+use crate::wire::word;
+
+#[derive(Clone)]
+pub struct Case {
+    pub seed: u64,
+    pub text: Vec<u8>,
+    pub file: Vec<u8>,
+    pub medium: Vec<u8>,
+    pub session: Vec<u8>,
+    /// The record as it is before.
+    pub record: Vec<u8>,
+}
+
+#[derive(Clone, PartialEq, Eq)]
+pub struct Outcome {
+    pub opening: u32,
+    pub handled: usize,
+    pub medium: Vec<u8>,
+    pub session: Vec<u8>,
+    pub record: Vec<u8>,
+    /// The state at the end; the library's run keeps its own inside.
+    pub state: Option<Vec<u8>>,
+}
+
+/// A request as sent, and its reply: the call's number, the recorded return code and the whole buffer.
+pub struct Exchange<'a> {
+    pub request: &'a [u8],
+    pub number: u32,
+    pub code: u32,
+    pub reply: &'a [u8],
+}
+
+impl Case {
+    /// A case whose record has room for every request.
+    pub fn of_requests(
+        seed: u64,
+        text: &[u8],
+        file: &[u8],
+        medium: &[u8],
+        requests: &[Vec<u8>],
+    ) -> Self {
+        Case {
+            seed,
+            text: text.to_vec(),
+            file: file.to_vec(),
+            medium: medium.to_vec(),
+            session: session::join(requests),
+            record: vec![0x5A; 8 * requests.len()],
+        }
+    }
+
+    /// The requests that were handled, with their replies.
+    pub fn exchanges<'a>(&'a self, outcome: &'a Outcome) -> Vec<Exchange<'a>> {
+        let requests = session::split(&self.session, outcome.handled);
+        let replies = session::split(&outcome.session, outcome.handled);
+        let pairs = requests.into_iter().zip(replies);
+        let records = outcome.record.chunks_exact(8);
+        pairs
+            .zip(records)
+            .map(|((request, reply), record)| Exchange {
+                request,
+                number: word(record, 0),
+                code: word(record, 4),
+                reply,
+            })
+            .collect()
+    }
+}

@@ -1,0 +1,77 @@
+//! Requests to states that a caller made, sound or not, with media of the right length and of others.
+
+use super::medium_length;
+use crate::adapter::damage::{self, Damage};
+use crate::adapter::form::Form;
+use crate::adapter::{Adapter, MOST_PHYS};
+use crate::compare::Difference;
+use crate::medium;
+use crate::names::DISK;
+use crate::pair::Pair;
+use crate::random::Random;
+use crate::request;
+use crate::text::LEVELS;
+use std::collections::BTreeMap;
+
+#[derive(Default)]
+pub struct Made {
+    pub states: u64,
+    pub requests: u64,
+    /// By the call's number.
+    pub calls: BTreeMap<u32, u64>,
+    pub differences: Vec<Difference>,
+}
+
+/// So many states, each with some requests, which go on with what the one before left.
+pub fn run(seed: u64, count: u64) -> Made {
+    let mut made = Made::default();
+    let broken = damage::all(Form::State);
+    for round in 0..count {
+        let seed = seed.wrapping_mul(1 << 32).wrapping_add(round);
+        if let Err(what) = made.one(&mut Random::new(seed), &broken) {
+            made.differences.push(Difference { seed, what });
+        }
+    }
+    made
+}
+
+impl Made {
+    fn one(&mut self, random: &mut Random, broken: &[&Damage]) -> Result<(), String> {
+        let adapter = Adapter::sound(random);
+        let state = state(random, &adapter, broken);
+        let mut pair = Pair::of(&state, &lent_medium(random, &state));
+        self.states += 1;
+        for _ in 0..4 {
+            let request = request::any(random, &adapter);
+            self.requests += 1;
+            let number = pair.request(&request)?.number;
+            *self.calls.entry(number).or_default() += 1;
+        }
+        Ok(())
+    }
+}
+
+/// A sound state, one that breaks a rule if the adapter has a place for it, or any bytes.
+fn state(random: &mut Random, adapter: &Adapter, broken: &[&Damage]) -> Vec<u8> {
+    let level = random.pick(&LEVELS);
+    match random.below(4) {
+        0 => super::any(random, adapter),
+        1 => {
+            let state = random.pick(broken).state(random, adapter, level);
+            state.unwrap_or_else(|| adapter.state(level))
+        }
+        _ => adapter.state(level),
+    }
+}
+
+/// Mostly of the length that belongs to the state. Media of more than 32 disks, for states that are refused, are not random: they are long.
+fn lent_medium(random: &mut Random, state: &[u8]) -> Vec<u8> {
+    let right = medium_length(state);
+    if right > MOST_PHYS * DISK {
+        vec![0x33; right]
+    } else if right > 0 && random.one_in(6) {
+        medium::of_wrong_length(random, right / DISK)
+    } else {
+        random.bytes(right)
+    }
+}

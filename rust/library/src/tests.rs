@@ -1,0 +1,103 @@
+//! Small inputs whose answers document 01 gives at a glance. Whole adapters are compared in `rust/differential`.
+
+use super::*;
+
+const OTHER: u8 = 0x5A;
+
+/// The number of an opening without file and medium, and the state that it leaves, which was full of other bytes.
+fn opened(text: &[u8]) -> (u32, [u8; STATE_SIZE]) {
+    let mut state = [OTHER; STATE_SIZE];
+    (open(text, &[], &[], &mut state), state)
+}
+
+/// A file of one phy without device and no rows.
+fn file() -> [u8; 1024] {
+    let mut file = [0; 1024];
+    file[0] = 1;
+    // each check: the words that are not 0, the block's number, and 1
+    file[508..512].copy_from_slice(&(1u32 + 1).to_le_bytes());
+    (file[512 + 30], file[512 + 31]) = (0x88, 0x99);
+    file[1020..].copy_from_slice(&(0x9988_0000u32 + 1 + 1).to_le_bytes());
+    file
+}
+
+/// The file's state at a level.
+fn state(level: u8) -> [u8; STATE_SIZE] {
+    let mut state = [0; STATE_SIZE];
+    (state[0], state[1]) = (level, 1);
+    (state[177 + 30], state[177 + 31]) = (0x88, 0x99);
+    state
+}
+
+#[test]
+fn an_opening_writes_the_whole_state() {
+    let mut held = [OTHER; STATE_SIZE];
+    assert_eq!(open(b"CSMI=Full;", &file(), &[0; 8192], &mut held), 0);
+    assert_eq!(held, state(3));
+}
+
+#[test]
+fn an_empty_file_is_102_and_leaves_the_zero_state() {
+    assert_eq!(opened(&[]), (102, [0; STATE_SIZE]));
+}
+
+#[test]
+fn a_wrong_text_is_101_and_leaves_the_zero_state() {
+    assert_eq!(opened(b"CSMI=full;"), (101, [0; STATE_SIZE]));
+}
+
+#[test]
+fn a_state_of_another_length_is_107_and_stays() {
+    for length in [0, 1, STATE_SIZE - 1, STATE_SIZE + 1, 2 * STATE_SIZE] {
+        let mut held = vec![OTHER; length];
+        let (mut medium, mut buffer) = ([0; 8192], [OTHER; 40]);
+        assert_eq!(open(b"", &file(), &medium, &mut held), 107);
+        assert_eq!(open(b"CSMI=full;", &[], &[], &mut held), 107);
+        assert_eq!(request(&mut held, &mut medium, &mut buffer), 107);
+        assert_eq!(request(&mut held, &mut [], &mut []), 107);
+        assert_eq!(held, vec![OTHER; length]);
+        assert!(medium == [0; 8192] && buffer == [OTHER; 40]);
+    }
+}
+
+#[test]
+fn the_numbers_of_a_request_in_their_order() {
+    let (mut held, mut medium) = (state(4), [0; 8192]);
+    assert_eq!(request(&mut held, &mut [], &mut []), 107);
+    held = state(3);
+    assert_eq!(request(&mut held, &mut medium[1..], &mut []), 106);
+    assert_eq!(request(&mut held, &mut medium, &mut [OTHER; 27]), 100);
+    let mut buffer = [0; 28];
+    assert_eq!(request(&mut held, &mut medium, &mut buffer), 0);
+    // HeaderLength is 0, which is return code 3
+    assert_eq!((buffer[20], held), (3, state(3)));
+}
+
+#[test]
+fn a_request_changes_the_state_in_place() {
+    let (mut held, mut medium) = (state(3), [0; 8192]);
+    let mut buffer = [0; 36];
+    buffer[0] = 28;
+    buffer[4..11].copy_from_slice(b"CSMISAS");
+    (buffer[16], buffer[24]) = (21, 8);
+    buffer[28..33].copy_from_slice(&[0, 1, 9, 9, 2]); // phy 0 disabled, 3.0 Gb/s alone, class 2
+    assert_eq!(request(&mut held, &mut medium, &mut buffer), 0);
+    let mut expected = state(3);
+    expected[177 + 21] = 2;
+    expected[177 + 29..177 + 32].copy_from_slice(&[1, 0x98, 0x99]);
+    assert_eq!((&buffer[20..24], held), (&[0; 4][..], expected));
+}
+
+#[test]
+fn a_request_after_a_refused_opening_gets_107() {
+    let mut session = [5, 0, 0, 0, 1, 2, 3, 4, 5];
+    let mut record = [0x5A; 10];
+    assert_eq!(run(&[], &[], &mut [], &mut session, &mut record), 1);
+    assert_eq!(session, [5, 0, 0, 0, 1, 2, 3, 4, 5]);
+    assert_eq!(record, [107, 0, 0, 0, 0xFF, 0xFF, 0xFF, 0xFF, 0x5A, 0x5A]);
+}
+
+#[test]
+fn an_empty_session_has_no_requests() {
+    assert_eq!(run(&[], &[], &mut [], &mut [], &mut []), 0);
+}

@@ -1,0 +1,50 @@
+/* What the test programs share: a count of what holds, little-endian numbers, and the samples' files. */
+#ifndef CHECK_H
+#define CHECK_H
+
+#include <stdint.h>
+#include <stdio.h>
+#include <string.h>
+
+static int passed, failed;
+
+static inline void check(const char *what, int holds)
+{
+    if (holds)
+        passed++;
+    else
+        printf("FAIL " PROGRAM ": %s\n", what), failed++;
+}
+
+/* The last line, and the program's status. */
+static inline int finish(void)
+{
+    printf("%d passed, %d failed\n", passed, failed);
+    return failed > 0;
+}
+
+static inline uint32_t word(const uint8_t *at)
+{
+    return at[0] | (uint32_t)at[1] << 8 | (uint32_t)at[2] << 16 | (uint32_t)at[3] << 24;
+}
+
+static inline int all(const uint8_t *at, size_t length, uint8_t value)
+{
+    while (length > 0 && at[length - 1] == value)
+        length--;
+    return length == 0;
+}
+
+static inline size_t read_file(const char *sample, const char *name, uint8_t *bytes, size_t room)
+{
+    char path[64];
+    snprintf(path, sizeof path, "samples/%s/%s", sample, name);
+    FILE *file = fopen(path, "rb");
+    size_t length = file ? fread(bytes, 1, room, file) : 0;
+    if (file)
+        fclose(file);
+    check(path, length > 0);
+    return length;
+}
+
+#endif
