@@ -35,8 +35,10 @@ fn count_line(state: &mut [u8], s: &[u8])
     state[2] = (field(s, 3) % 256) as u8;
 }
 
+// A line of another letter changes nothing.
 pub fn damage(state: &mut [u8], s: &[u8], c: u8)
     requires { ⌜ length (now state) ≡ stateSize ⌝ }
+    ensures { λ _. ⌜ ((c ≡ 121 → ⊥) → (c ≡ 119 → ⊥) → (c ≡ 108 → ⊥) → now (state .exit) ≡ now (state .entry)) ⌝ }
 {
     if c == b'y' {
         phy_line(state, s);

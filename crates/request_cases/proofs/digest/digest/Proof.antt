@@ -1,12 +1,13 @@
 -- `request_cases::digest::digest` meets its contract. Assumes nothing.
+use mathlib.Core.Path.{_≡_}
 use Prim.Native.Nat.{_≤_, _-_}
 use lib.ListN.{length}
-use borrow.Author.Needs.{needs}
+use Rattle.request_cases.specs.Digest.{steps, byteStep, steps-loop}
 use Rattle.request_cases.proofs.digest.digest.Statement.{statement}
 use Rattle.request_cases.proofs.digest.digest.Tie as tie
 
 abbrev Inv-loop : tie.InvT-loop
-Inv-loop before s d₀ i₀ d i = i ≤ length s
+Inv-loop before s d₀ i₀ d i = (i ≤ length s) × (d ≡ steps (byteStep s) before i)
 
 abbrev μ-loop : tie.MeasureT-loop
 μ-loop before s d₀ i₀ d i = length s - i
@@ -14,5 +15,5 @@ abbrev μ-loop : tie.MeasureT-loop
 pub digest-spec : {M : Type 1} → statement M
 digest-spec =
     tie.close
-    (tie.spec Inv-loop μ-loop (λ c. search needs) (λ c. search needs) (λ c κs. search needs) (λ c. search needs)
-    (λ c. search needs) (λ c. search needs) (λ c. search needs))
+    (tie.spec Inv-loop μ-loop (λ c. search steps-loop) (λ c. search steps-loop) (λ c κs. search steps-loop) (λ c. search steps-loop)
+    (λ c. search steps-loop) (λ c. search steps-loop) (λ c. search steps-loop))

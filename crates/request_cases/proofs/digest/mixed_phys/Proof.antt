@@ -1,11 +1,12 @@
 -- `request_cases::digest::mixed_phys` meets its contract. Assumes nothing.
+use mathlib.Core.Path.{_≡_}
 use Prim.Native.Nat.{_≤_, _-_}
-use borrow.Author.Needs.{needs}
+use Rattle.request_cases.specs.Digest.{steps, phyStep, steps-loop}
 use Rattle.request_cases.proofs.digest.mixed_phys.Statement.{statement}
 use Rattle.request_cases.proofs.digest.mixed_phys.Tie as tie
 
 abbrev Inv-loop : tie.InvT-loop
-Inv-loop before phys d₀ n₀ d n = n ≤ 32
+Inv-loop before phys d₀ n₀ d n = (n ≤ 32) × (d ≡ steps (phyStep phys) before n)
 
 abbrev μ-loop : tie.MeasureT-loop
 μ-loop before phys d₀ n₀ d n = 32 - n
@@ -13,6 +14,6 @@ abbrev μ-loop : tie.MeasureT-loop
 pub mixed-phys-spec : {M : Type 1} → statement M
 mixed-phys-spec =
     tie.close
-    (tie.spec Inv-loop μ-loop (λ c. search needs) (λ c. search needs) (λ c. search needs) (λ c. search needs)
-    (λ c. search needs) (λ c. search needs) (λ c. search needs) (λ c κs. search needs) (λ c. search needs)
-    (λ c. search needs) (λ c. search needs) (λ c. search needs))
+    (tie.spec Inv-loop μ-loop (λ c. search steps-loop) (λ c. search steps-loop) (λ c. search steps-loop) (λ c. search steps-loop)
+    (λ c. search steps-loop) (λ c. search steps-loop) (λ c. search steps-loop) (λ c κs. search steps-loop) (λ c. search steps-loop)
+    (λ c. search steps-loop) (λ c. search steps-loop) (λ c. search steps-loop))
