@@ -11,35 +11,35 @@ use Rattle.phy.specs.Entity.{programmedMinimum, programmedMaximum}
 use Rattle.layout.specs.Layout.{phyCount}
 use Rattle.adapter.specs.Adapter.{phyIn}
 use Rattle.level.specs.Text.{textLevel}
-use Rattle.disk.specs.Laws.{sector}
-use Rattle.passthrough.specs.Passthrough.{diskOf}
-use Rattle.state.specs.State.{zeroState}
+use Rattle.state.specs.State.{stateWith, zeroState}
 use Rattle.state.specs.Open.{openedOf}
-use Rattle.claims.specs.Run.{Entry, End, wholeRun, exchanges, given, sentOf, denial}
-use Rattle.claims.specs.LastWriter.{lastSector, lastMinimum, lastMaximum}
+use Rattle.service.specs.Serve.{storeOf}
+use Rattle.dispatch.specs.Request.{Request}
+use Rattle.claims.specs.Run.{Entry, End, wholeRun, exchanges, requestsIn, notDenied, denial}
+use Rattle.claims.specs.LastWriter.{Sector, sectorIn, lastSector, lastMinimum, lastMaximum}
 
 -- "the last-writer half", of a run with this text, file and medium and this end
 pub record LastWriterHalf (text file medium : List ℕ) (end : End) : Type 0 where
   -- "Where the opening accepts, the half holds for every sector of every disk and both programmed rates of every phy below the
   -- file's p"
-  pub sectors : openedOf text file medium .call ≡ 0 → (n k : ℕ) → n < phyCount file → k < 16
-      → sector (diskOf (end .medium) n) k ≡ lastSector file medium (exchanges (end .log)) n k
+  pub sectors : openedOf text file medium .call ≡ 0 → (s : Sector) → s .phy < phyCount file → s .number < 16
+      → sectorIn (end .point .store) s ≡ lastSector file medium (exchanges (end .log)) s
   pub minima : openedOf text file medium .call ≡ 0 → (n : ℕ) → n < phyCount file
-      → programmedMinimum (phyIn (end .state .adapter) n) ≡ lastMinimum file (exchanges (end .log)) n
+      → programmedMinimum (phyIn (end .point .state .adapter) n) ≡ lastMinimum file (exchanges (end .log)) n
   pub maxima : openedOf text file medium .call ≡ 0 → (n : ℕ) → n < phyCount file
-      → programmedMaximum (phyIn (end .state .adapter) n) ≡ lastMaximum file (exchanges (end .log)) n
+      → programmedMaximum (phyIn (end .point .state .adapter) n) ≡ lastMaximum file (exchanges (end .log)) n
   -- the disks are as many bytes as at the start, so that a sector is 512 of them
-  pub size : length (end .medium) ≡ length medium
+  pub size : length (end .point .store .medium) ≡ length medium
   -- "After a refused opening there is no phy and no programmed rate, and the whole medium stays as it was"
-  pub refusedState : (openedOf text file medium .call ≡ 0 → ⊥) → end .state ≡ zeroState
-  pub refusedMedium : (openedOf text file medium .call ≡ 0 → ⊥) → end .medium ≡ medium
+  pub refusedState : (openedOf text file medium .call ≡ 0 → ⊥) → end .point .state ≡ zeroState
+  pub refusedStore : (openedOf text file medium .call ≡ 0 → ⊥) → end .point .store ≡ storeOf medium
 
 -- what holds of each run by itself, whatever its level
-pub record OneRun (text file medium : List ℕ) (requests : List (List ℕ)) (end : End) : Type 0 where
+pub record OneRun (text file medium : List ℕ) (requests : List Request) (end : End) : Type 0 where
   -- every request of its list was answered, in order
-  pub answered : sentOf (exchanges (end .log)) ≡ requests
+  pub answered : requestsIn (end .log) ≡ requests
   -- a request changes no level: it is the opening's at the end of this list, and so of every list that begins it
-  pub level : end .state .level ≡ openedOf text file medium .state .level
+  pub level : end .point .state .level ≡ openedOf text file medium .state .level
   -- the reply to a denied request is the request with return code 4, and call number 0
   pub denials : All (λ (e : Entry). e .denied ≡ true → e .exchange .reply ≡ denial (e .exchange .sent)) (end .log)
   pub last : LastWriterHalf text file medium end
@@ -47,27 +47,30 @@ pub record OneRun (text file medium : List ℕ) (requests : List (List ℕ)) (en
 -- the ends of the lower and the higher run, compared
 pub record Comparison (lower higher : End) : Type 0 where
   -- "Tables, counters and disks are every field of the state but the level, and every byte of the medium"
-  pub tables : record { level = higher .state .level; adapter = lower .state .adapter } ≡ higher .state
-  pub disks : lower .medium ≡ higher .medium
+  pub tables : stateWith (higher .point .state .level) (lower .point .state .adapter) ≡ higher .point .state
+  pub disks : lower .point .store ≡ higher .point .store
   -- the requests that both were given got the same replies
-  pub replies : given (lower .log) ≡ exchanges (higher .log)
+  pub replies : exchanges (notDenied (lower .log)) ≡ exchanges (higher .log)
 
 -- "Both runs start with the same file and the same medium bytes"
-module _ (low high file medium : List ℕ) (requests : List (List ℕ)) where
+module _ (low high file medium : List ℕ) (requests : List Request) where
   abbrev pub lowerRun : End
   lowerRun = wholeRun low file medium requests
 
   -- "The higher run's list is the lower's without the requests denied there"
+  abbrev pub givenBoth : List Request
+  givenBoth = requestsIn (notDenied (lowerRun .log))
+
   abbrev pub higherRun : End
-  higherRun = wholeRun high file medium (sentOf (given (lowerRun .log)))
+  higherRun = wholeRun high file medium givenBoth
 
   pub record TwoRuns : Type 0 where
     pub lower : OneRun low file medium requests lowerRun
-    pub higher : OneRun high file medium (sentOf (given (lowerRun .log))) higherRun
+    pub higher : OneRun high file medium givenBoth higherRun
     -- "each text gives a level, the lower run's at most the higher's"
     pub comparison : textLevel low .call ≡ 0 → textLevel high .call ≡ 0 → textLevel low .level .0 ≤ textLevel high .level .0
         → Comparison lowerRun higherRun
 
 -- demand 3: for every file and medium, every list of requests, and two texts
 abbrev pub Claim : Type 0
-Claim = (low high file medium : List ℕ) (requests : List (List ℕ)) → TwoRuns low high file medium requests
+Claim = (low high file medium : List ℕ) (requests : List Request) → TwoRuns low high file medium requests

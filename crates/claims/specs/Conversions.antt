@@ -1,193 +1,187 @@
--- The conversions through `request` undo each other on rows that an opening accepted (document 01, codes 27 and 28): the reply to a 27,
--- fed to a 28, gives the SAS address and LUN back, and the other way. In the body of a 27 the SAS address and LUN are bytes 0–15 and the
--- OS bytes 16–19; in that of a 28 the OS bytes are 0–3 and the others 4–19. Assumes nothing.
+-- The conversions through `request` undo each other on accepted rows (document 01, codes 27 and 28), wherever a run from an accepted opening
+-- stands: the reply to a 27, fed to a 28, gives the SAS address and LUN back, and the other way. In the body of a 27 the SAS address and LUN are
+-- bytes 0–15 and the OS bytes 16–19; in that of a 28 the OS bytes are 0–3 and the others 4–19. Assumes nothing.
 use mathlib.Core.Path.{_≡_, refl, sym, _∙_, ap}
-use mathlib.Core.Bool.{true, cond, _&&_}
-use mathlib.Core.List.{List, _++_}
+use mathlib.Core.Bool.{true, cond}
+use mathlib.Core.List.{List}
 use Prim.Native.Nat.{ℕ, _+_, _<_, _≤_}
 use native.Mathlib.Omega.{arith}
-use lib.Dec.{eqb, ltb, leb}
-use lib.ListN.{length, take}
-use lib.Seq.{length-take-le, drop-drop, drop-append-add}
-use borrow.Author.Tests.{le-ltb, lt-ltb, eq-eqb, eqb-true, ltb-true}
-use Rattle.laws.specs.Choice.{either, both-left, both-right, came-then}
+use lib.Dec.{eqb, ltb}
+use lib.ListN.{length}
+use borrow.Author.Tests.{le-ltb, lt-ltb, eqb-true, ltb-true}
+use Rattle.laws.specs.Choice.{either, came-then}
 use Rattle.laws.specs.Fill.{getD-padded}
-use Rattle.laws.specs.Splice.{part, splice, part-splice, part-above}
+use Rattle.laws.specs.Splice.{part, splice, part-splice}
 use Rattle.codes.specs.Codes.{success, getScsiAddress, getDeviceAddress, noScsiAddress, noDeviceAddress}
-use Rattle.wire.specs.Number.{bytes, length-bytes}
 use Rattle.rows.specs.Read.{length-device, length-os}
 use Rattle.rows.specs.Row.{Row, noRow, zeroRow, rowAt, rowsHold, deviceIndex, osIndex}
 use Rattle.rows.specs.Conversions.{device-found, os-found, device-own, os-own}
-use Rattle.adapter.specs.Adapter.{Adapter, countsHold, fieldsAll, zeroPast, mediumSize}
-use Rattle.link.specs.All.{negotiatedAll}
 use Rattle.layout.specs.Layout.{phyCount, rowCount, rowPlace}
 use Rattle.file.specs.File.{rowAt as fileRow, adapterOf}
 use Rattle.file.specs.Laws.{row-within}
 use Rattle.reports.specs.Report.{Report, filled, report}
 use Rattle.reports.specs.ScsiAddress.{osBytes, scsiAddress}
 use Rattle.reports.specs.DeviceAddress.{deviceBytes, deviceAddress}
-use Rattle.state.specs.State.{State, tablesHold, adapterHolds, stateHolds}
 use Rattle.state.specs.Open.{openedOf}
 use Rattle.state.specs.Accepted.{Open, open-accepted, open-holds}
 use Rattle.header.specs.Table.{structureSize}
-use Rattle.header.specs.Laws.{access-room}
-use Rattle.header.specs.Header.{controlCode, bodyOf, accessCode}
 use Rattle.service.specs.Serve.{reported, changed, reportOf, served}
-use Rattle.dispatch.specs.Request.{Outcome, stateNumber, bufferNumber, callNumber, inBuffer, answered, replied, answeredAt, handled}
-use Rattle.claims.specs.Run.{replyOf}
-use Rattle.claims.specs.LastWriter.{granted}
-use Rattle.claims.specs.Ways.{granted-code, in-buffer}
+use Rattle.dispatch.specs.Laws.{number-state, checks-room}
+use Rattle.dispatch.specs.Request.{Request, formOf, controlOf, bodyOf, checksCode, Point, Outcome, bufferNumber, pointNumber, inBuffer, answered, replied, answeredAt, handled}
+use Rattle.claims.specs.Run.{exchangeOf, step, openedAt, wholeRun}
+use Rattle.claims.specs.LastWriter.{granted, Told, toldBy}
+use Rattle.claims.specs.Ways.{tables-hold, toldOf, told-served}
+use Rattle.claims.specs.Moved.{rows-hold}
+use Rattle.claims.specs.Reached.{number-zero, Reached, reached}
+use Rattle.claims.specs.Demand3.{sized-opened}
 
 -- ---- a request of one code that passes the checks up to the level
 
-pub record Sound (s : State) (request : List ℕ) (code : ℕ) : Type 0 where
-  pub long : 28 ≤ length request
-  pub coded : controlCode request ≡ code
-  pub passes : accessCode (s .level) request ≡ success
+pub record Sound (p : Point) (r : Request) (control : ℕ) : Type 0 where
+  pub long : formOf r .size ≤ length (r .buffer)
+  pub coded : controlOf r ≡ control
+  pub passes : checksCode (p .state .level) r ≡ success
 
--- a state that 107 accepts, with its medium, whose rows have 16 and 4 bytes
-pub record AcceptedRows (s : State) (medium : List ℕ) : Type 0 where
-  pub holds : stateHolds s ≡ true
-  pub disks : mediumSize (s .adapter) ≡ length medium
-  pub devices : (i : ℕ) → i < s .adapter .«row_count» → length (rowAt (s .adapter .rows) i .device) ≡ 16
-  pub os : (i : ℕ) → i < s .adapter .«row_count» → length (rowAt (s .adapter .rows) i .os) ≡ 4
+-- a point whose state and medium are accepted, and whose rows have 16 and 4 bytes
+pub record AcceptedRows (p : Point) : Type 0 where
+  pub number : pointNumber p ≡ 0
+  pub devices : (i : ℕ) → i < p .state .adapter .«row_count» → length (rowAt (p .state .adapter .rows) i .device) ≡ 16
+  pub os : (i : ℕ) → i < p .state .adapter .«row_count» → length (rowAt (p .state .adapter .rows) i .os) ≡ 4
 
 -- what it is answered with, of a code that only reports
-reportedBy : State → List ℕ → List ℕ → Report → Outcome
-reportedBy s medium request r = replied (s .level) (inBuffer request (changed medium (reported (s .adapter) r)))
+unfoldable reportedBy : Point → Request → Report → Outcome
+reportedBy p r x = replied (formOf r) (p .state .level) (inBuffer r (changed (p .store) (reported (p .state .adapter) x)))
 
-handled-sound : (s : State) (medium request : List ℕ) (code : ℕ) → stateHolds s ≡ true → mediumSize (s .adapter) ≡ length medium → Sound s request code
-    → handled s medium request ≡ replied (s .level) (inBuffer request (served (s .adapter) medium code (bodyOf request)))
-unfolding handled callNumber bufferNumber stateNumber answeredAt answered
-handled-sound s medium request code h d o =
-    rw (h, eq-eqb (mediumSize (s .adapter)) (length medium) d, le-ltb (length request) 28 (o .long), o .passes, o .coded) refl
+handled-sound : (p : Point) (r : Request) (control : ℕ) → pointNumber p ≡ 0 → Sound p r control
+    → handled p r ≡ replied (formOf r) (p .state .level) (inBuffer r (served (p .state .adapter) (p .store) control (bodyOf r)))
+unfolding handled bufferNumber answeredAt answered
+handled-sound p r control n o = rw (n, le-ltb (length (r .buffer)) (formOf r .size) (o .long), o .passes, o .coded) refl
 
--- ---- the body of the reply
+-- ---- what the reply shows
 
-body-part : (request body : List ℕ) (code i n : ℕ) → 28 ≤ length request
-    → part (bodyOf (splice (take 28 request ++ body) 20 (bytes 4 code))) i n ≡ part body i n
-unfolding part
-body-part request body code i n h =
-    let l : length (take 28 request) ≡ 28 = length-take-le 28 request h in
-    let b : 20 ≤ length (take 28 request ++ body) = omega (arith, in-buffer request body h) in
-    ap (take n) (drop-drop i 28 (splice (take 28 request ++ body) 20 (bytes 4 code)))
-    ∙ part-above (take 28 request ++ body) 20 (bytes 4 code) (28 + i) n b (rw length-bytes (omega arith))
-    ∙ ap (take n) (rw l at (drop-append-add (take 28 request) body i))
+-- the reply's body
+abbrev pub bodyShown : Request → Outcome → List ℕ
+bodyShown r o = toldBy (exchangeOf r o) .reply
 
-module _ (s : State) (medium request : List ℕ) (r : Report) (h : 28 ≤ length request) where
-  granted-report : r .code ≤ 2014 → granted (replyOf (reportedBy s medium request r)) ≡ eqb (r .code) success
+abbrev pub grants : Request → Outcome → Type 0
+grants r o = granted (exchangeOf r o) ≡ true
+
+module _ (p : Point) (r : Request) (x : Report) (h : formOf r .size ≤ length (r .buffer)) (k : x .code ≤ 2014) where
+  told-report : toldBy (exchangeOf r (reportedBy p r x)) ≡ toldOf (controlOf r) (bodyOf r) (changed (p .store) (reported (p .state .adapter) x))
   unfolding reportedBy
-  granted-report k = granted-code (take 28 request ++ r .body) (r .code) (in-buffer request (r .body) h) k
+  told-report = told-served p r (changed (p .store) (reported (p .state .adapter) x)) k h
 
-  reported-part : (i n : ℕ) → part (bodyOf (reportedBy s medium request r .buffer)) i n ≡ part (r .body) i n
-  unfolding reportedBy
-  reported-part i n = body-part request (r .body) (r .code) i n h
+  granted-report : granted (exchangeOf r (reportedBy p r x)) ≡ eqb (x .code) success
+  unfolding toldBy
+  granted-report = ap (λ (t : Told). t .granted) told-report
 
-  -- a report leaves the state and the medium as they were
-  reported-state : reportedBy s medium request r .state ≡ s
-  unfolding reportedBy
-  reported-state = refl
+  body-report : bodyShown r (reportedBy p r x) ≡ x .body
+  body-report = ap (λ (t : Told). t .reply) told-report
 
-  reported-medium : reportedBy s medium request r .medium ≡ medium
-  unfolding reportedBy
-  reported-medium = refl
+-- a report leaves the point as it was
+reported-stays : (p : Point) (r : Request) (x : Report) → reportedBy p r x .point ≡ p
+unfolding reportedBy
+reported-stays p r x = refl
 
 -- ---- a row that was looked up, one way or the other: its bytes v go to a place of the body
 
-module _ (s : State) (medium request : List ℕ) (h : 28 ≤ length request) (i a place : ℕ) (v : List ℕ) (none : ℕ) (z : 0 < none) (k : none ≤ 2014) where
+module _ (p : Point) (r : Request) (h : formOf r .size ≤ length (r .buffer)) (i a place : ℕ) (v : List ℕ) (none : ℕ) (z : 0 < none) (k : none ≤ 2014) where
   abbrev looked : Report
-  looked = cond (ltb i a) (filled (splice (bodyOf request) place v)) (report none (bodyOf request))
+  looked = cond (ltb i a) (filled (splice (bodyOf r) place v)) (report none (bodyOf r))
 
   small : looked .code ≤ 2014
-  small = either (λ (r : Report). r .code ≤ 2014) (ltb i a) (omega arith) k
+  small = either (λ (x : Report). x .code ≤ 2014) (ltb i a) (omega arith) k
 
   -- a reply that grants was found
-  found : granted (replyOf (reportedBy s medium request looked)) ≡ true → i < a
+  found : grants r (reportedBy p r looked) → i < a
   found g =
-      let e : looked .code ≡ 0 = eqb-true (looked .code) 0 (sym (granted-report s medium request looked h small) ∙ g) in
-      ltb-true i a (came-then (λ (r : Report). r .code ≡ 0) (ltb i a) (λ q. omega arith) e .0)
+      let e : looked .code ≡ 0 = eqb-true (looked .code) 0 (sym (granted-report p r looked h small) ∙ g) in
+      ltb-true i a (came-then (λ (x : Report). x .code ≡ 0) (ltb i a) (λ q. omega arith) e .0)
 
   -- and one that was found grants and shows the bytes
-  shown : i < a → place ≤ length (bodyOf request)
-      → (granted (replyOf (reportedBy s medium request looked)) ≡ true) × (part (bodyOf (reportedBy s medium request looked .buffer)) place (length v) ≡ v)
-  shown l p =
-      let y : looked ≡ filled (splice (bodyOf request) place v) = rw (lt-ltb i a l) refl in (
-        granted-report s medium request looked h small ∙ ap (λ (r : Report). eqb (r .code) 0) y,
-        reported-part s medium request looked h place (length v) ∙ ap (λ (r : Report). part (r .body) place (length v)) y ∙ part-splice (bodyOf request) place v p,
+  shown : i < a → place ≤ length (bodyOf r) → grants r (reportedBy p r looked) × (part (bodyShown r (reportedBy p r looked)) place (length v) ≡ v)
+  shown l b =
+      let y : looked ≡ filled (splice (bodyOf r) place v) = rw (lt-ltb i a l) refl in (
+        granted-report p r looked h small ∙ ap (λ (x : Report). eqb (x .code) 0) y,
+        ap (λ (l : List ℕ). part l place (length v)) (body-report p r looked h small) ∙ ap (λ (x : Report). part (x .body) place (length v)) y ∙ part-splice (bodyOf r) place v b,
       )
 
 -- ---- both ways
 
-module _ (s : State) (medium : List ℕ) (w : AcceptedRows s medium) where
+-- one request and then the other
+pub record RoundTrip (p : Point) : Type 0 where
+  -- the OS bytes that the reply to a 27 shows, sent as a 28 in the state and medium that the 27 left, give the SAS address and LUN back
+  pub device : (q r : Request) → Sound p q getScsiAddress → Sound p r getDeviceAddress → grants q (handled p q)
+      → part (bodyOf r) 0 4 ≡ part (bodyShown q (handled p q)) 16 4
+      → grants r (handled (step p q) r) × (part (bodyShown r (handled (step p q) r)) 4 16 ≡ part (bodyOf q) 0 16)
+  -- the SAS address and LUN that the reply to a 28 shows, sent as a 27, give the OS bytes back
+  pub os : (q r : Request) → Sound p q getDeviceAddress → Sound p r getScsiAddress → grants q (handled p q)
+      → part (bodyOf r) 0 16 ≡ part (bodyShown q (handled p q)) 4 16
+      → grants r (handled (step p q) r) × (part (bodyShown r (handled (step p q) r)) 16 4 ≡ part (bodyOf q) 0 4)
+
+module _ (p : Point) (w : AcceptedRows p) where
   abbrev rows : List Row
-  rows = s .adapter .rows
+  rows = p .state .adapter .rows
 
   abbrev a : ℕ
-  a = s .adapter .«row_count»
-
-  -- one request, and then another
-  abbrev pub after : List ℕ → List ℕ → Outcome
-  after q r = handled (handled s medium q .state) (handled s medium q .medium) r
-
-  rows-hold : rowsHold rows a ≡ true
-  unfolding stateHolds adapterHolds tablesHold
-  rows-hold =
-      let ad : Adapter = s .adapter in
-      both-right (fieldsAll ad && negotiatedAll ad) (rowsHold rows a)
-      (both-left (fieldsAll ad && negotiatedAll ad && rowsHold rows a) (zeroPast ad)
-      (both-right (countsHold (ad .«phy_count») a) (tablesHold ad) (both-right (leb (s .level .0) 3) (adapterHolds ad) (w .holds))))
+  a = p .state .adapter .«row_count»
 
   -- the structure of both is 20 bytes
-  room : (request : List ℕ) (code : ℕ) → Sound s request code → structureSize code ≡ 20 → 20 ≤ length (bodyOf request)
-  room request code o e =
-      let x = access-room (s .level) request (accessCode (s .level) request) refl (o .passes) in
-      omega (arith, (rw (o .coded, e) at x))
+  room : (r : Request) (control : ℕ) → Sound p r control → structureSize control ≡ 20 → 20 ≤ length (bodyOf r)
+  room r control o e = let x = checks-room (p .state .level) r (o .passes) in omega (arith, (rw (o .coded, e) at x))
 
-  scsi : (request : List ℕ) → Sound s request getScsiAddress
-      → handled s medium request ≡ reportedBy s medium request (osBytes rows a (deviceIndex rows a (part (bodyOf request) 0 16)) (bodyOf request))
+  -- what a 27 and a 28 are answered with
+  abbrev scsiReport : Request → Report
+  scsiReport r = osBytes rows a (deviceIndex rows a (part (bodyOf r) 0 16)) (bodyOf r)
+
+  abbrev deviceReport : Request → Report
+  deviceReport r = deviceBytes rows a (osIndex rows a (part (bodyOf r) 0 4)) (bodyOf r)
+
+  scsi : (r : Request) → Sound p r getScsiAddress → handled p r ≡ reportedBy p r (scsiReport r)
   unfolding served reportOf scsiAddress reportedBy
-  scsi request o = handled-sound s medium request getScsiAddress (w .holds) (w .disks) o
+  scsi r o = handled-sound p r getScsiAddress (w .number) o
 
-  device : (request : List ℕ) → Sound s request getDeviceAddress
-      → handled s medium request ≡ reportedBy s medium request (deviceBytes rows a (osIndex rows a (part (bodyOf request) 0 4)) (bodyOf request))
+  device : (r : Request) → Sound p r getDeviceAddress → handled p r ≡ reportedBy p r (deviceReport r)
   unfolding served reportOf deviceAddress reportedBy
-  device request o = handled-sound s medium request getDeviceAddress (w .holds) (w .disks) o
+  device r o = handled-sound p r getDeviceAddress (w .number) o
 
-  -- the OS bytes that the reply to a 27 shows, sent as a 28 in the state and medium that the 27 left, give the SAS address and LUN back
-  pub device-returns : (q r : List ℕ) → Sound s q getScsiAddress → Sound s r getDeviceAddress → granted (replyOf (handled s medium q)) ≡ true
-      → part (bodyOf r) 0 4 ≡ part (bodyOf (handled s medium q .buffer)) 16 4
-      → (granted (replyOf (after q r)) ≡ true) × (part (bodyOf (after q r .buffer)) 4 16 ≡ part (bodyOf q) 0 16)
+  hold : rowsHold rows a ≡ true
+  hold = rows-hold (p .state .adapter) (tables-hold (p .state) (number-state (p .state) (length (p .store .medium)) (w .number)))
+
+  -- either leaves the point
+  scsi-stays : (q : Request) → Sound p q getScsiAddress → step p q ≡ p
+  scsi-stays q o = ap (λ (x : Outcome). x .point) (scsi q o) ∙ reported-stays p q (scsiReport q)
+
+  device-stays : (q : Request) → Sound p q getDeviceAddress → step p q ≡ p
+  device-stays q o = ap (λ (x : Outcome). x .point) (device q o) ∙ reported-stays p q (deviceReport q)
+
+  pub both-ways : RoundTrip p
   unfolding osBytes deviceBytes structureSize
-  device-returns q r oq or g e =
-      let key : List ℕ = part (bodyOf q) 0 16 in
-      let i : ℕ = deviceIndex rows a key in
-      let l : i < a = found s medium q (oq .long) i a 16 (rowAt rows i .os) noScsiAddress (omega arith) (omega arith) (rw (scsi q oq) at g) in
-      let v = shown s medium q (oq .long) i a 16 (rowAt rows i .os) noScsiAddress (omega arith) (omega arith) l (omega (arith, room q getScsiAddress oq refl)) in
-      let x : part (bodyOf r) 0 4 ≡ rowAt rows i .os = e ∙ rw (scsi q oq) (rw (w .os i l) at (v .1)) in
-      let j : osIndex rows a (part (bodyOf r) 0 4) ≡ i = rw x (os-own rows a i rows-hold l) in
-      let u = shown s medium r (or .long) i a 4 (rowAt rows i .device) noDeviceAddress (omega arith) (omega arith) l (omega (arith, room r getDeviceAddress or refl)) in
-      rw (scsi q oq, reported-state s medium q _ (oq .long), reported-medium s medium q _ (oq .long), device r or, j)
-      (u .0, rw (w .devices i l) at (u .1) ∙ device-found rows a key l)
+  both-ways =
+      record {
+        device = λ q r oq or g e.
+            let key : List ℕ = part (bodyOf q) 0 16 in
+            let i : ℕ = deviceIndex rows a key in
+            let l : i < a = found p q (oq .long) i a 16 (rowAt rows i .os) noScsiAddress (omega arith) (omega arith) (rw (scsi q oq) at g) in
+            let v = shown p q (oq .long) i a 16 (rowAt rows i .os) noScsiAddress (omega arith) (omega arith) l (omega (arith, room q getScsiAddress oq refl)) in
+            let x : part (bodyOf r) 0 4 ≡ rowAt rows i .os = e ∙ rw (scsi q oq) (rw (w .os i l) at (v .1)) in
+            let j : osIndex rows a (part (bodyOf r) 0 4) ≡ i = rw x (os-own rows a i hold l) in
+            let u = shown p r (or .long) i a 4 (rowAt rows i .device) noDeviceAddress (omega arith) (omega arith) l (omega (arith, room r getDeviceAddress or refl)) in
+            rw (scsi-stays q oq, device r or, j) (u .0, rw (w .devices i l) at (u .1) ∙ device-found rows a key l);
+        os = λ q r oq or g e.
+            let key : List ℕ = part (bodyOf q) 0 4 in
+            let i : ℕ = osIndex rows a key in
+            let l : i < a = found p q (oq .long) i a 4 (rowAt rows i .device) noDeviceAddress (omega arith) (omega arith) (rw (device q oq) at g) in
+            let v = shown p q (oq .long) i a 4 (rowAt rows i .device) noDeviceAddress (omega arith) (omega arith) l (omega (arith, room q getDeviceAddress oq refl)) in
+            let x : part (bodyOf r) 0 16 ≡ rowAt rows i .device = e ∙ rw (device q oq) (rw (w .devices i l) at (v .1)) in
+            let j : deviceIndex rows a (part (bodyOf r) 0 16) ≡ i = rw x (device-own rows a i hold l) in
+            let u = shown p r (or .long) i a 16 (rowAt rows i .os) noScsiAddress (omega arith) (omega arith) l (omega (arith, room r getScsiAddress or refl)) in
+            rw (device-stays q oq, scsi r or, j) (u .0, rw (w .os i l) at (u .1) ∙ os-found rows a key l);
+      }
 
-  -- the SAS address and LUN that the reply to a 28 shows, sent as a 27, give the OS bytes back
-  pub os-returns : (q r : List ℕ) → Sound s q getDeviceAddress → Sound s r getScsiAddress → granted (replyOf (handled s medium q)) ≡ true
-      → part (bodyOf r) 0 16 ≡ part (bodyOf (handled s medium q .buffer)) 4 16
-      → (granted (replyOf (after q r)) ≡ true) × (part (bodyOf (after q r .buffer)) 16 4 ≡ part (bodyOf q) 0 4)
-  unfolding osBytes deviceBytes structureSize
-  os-returns q r oq or g e =
-      let key : List ℕ = part (bodyOf q) 0 4 in
-      let i : ℕ = osIndex rows a key in
-      let l : i < a = found s medium q (oq .long) i a 4 (rowAt rows i .device) noDeviceAddress (omega arith) (omega arith) (rw (device q oq) at g) in
-      let v = shown s medium q (oq .long) i a 4 (rowAt rows i .device) noDeviceAddress (omega arith) (omega arith) l (omega (arith, room q getDeviceAddress oq refl)) in
-      let x : part (bodyOf r) 0 16 ≡ rowAt rows i .device = e ∙ rw (device q oq) (rw (w .devices i l) at (v .1)) in
-      let j : deviceIndex rows a (part (bodyOf r) 0 16) ≡ i = rw x (device-own rows a i rows-hold l) in
-      let u = shown s medium r (or .long) i a 16 (rowAt rows i .os) noScsiAddress (omega arith) (omega arith) l (omega (arith, room r getScsiAddress or refl)) in
-      rw (device q oq, reported-state s medium q _ (oq .long), reported-medium s medium q _ (oq .long), scsi r or, j)
-      (u .0, rw (w .os i l) at (u .1) ∙ os-found rows a key l)
+-- ---- every point of a run from an opening that accepts is such a point
 
--- ---- an opening that accepts gives such a state
-
-pub opened-rows : (text file medium : List ℕ) → openedOf text file medium .call ≡ 0 → AcceptedRows (openedOf text file medium .state) medium
+opened-rows : (text file medium : List ℕ) → openedOf text file medium .call ≡ 0 → AcceptedRows (openedAt text file medium)
 unfolding adapterOf fileRow
 opened-rows text file medium h =
     let o : Open text file medium = open-accepted text file medium h in
@@ -195,25 +189,19 @@ opened-rows text file medium h =
     let n : ℕ = rowCount file in
     let inside : (i : ℕ) → i < n → rowPlace p i + 20 ≤ length file = λ i l. row-within file p n i l (sym (o .read .size)) in
     record {
-      holds = open-holds text file medium h;
-      disks = rw (o .opened) (o .disks);
-      devices = rw (o .opened) (λ i l. ap (λ (r : Row). length (r .device)) (getD-padded (fileRow file p) n 64 i zeroRow noRow l) ∙ length-device file (rowPlace p i) (inside i l));
-      os = rw (o .opened) (λ i l. ap (λ (r : Row). length (r .os)) (getD-padded (fileRow file p) n 64 i zeroRow noRow l) ∙ length-os file (rowPlace p i) (inside i l));
+      number = number-zero (openedOf text file medium .state) (length medium) (open-holds text file medium h) (rw (o .opened) (sym (o .disks)));
+      devices = rw (o .opened) (λ i l. ap (λ (x : Row). length (x .device)) (getD-padded (fileRow file p) n 64 i zeroRow noRow l) ∙ length-device file (rowPlace p i) (inside i l));
+      os = rw (o .opened) (λ i l. ap (λ (x : Row). length (x .os)) (getD-padded (fileRow file p) n 64 i zeroRow noRow l) ∙ length-os file (rowPlace p i) (inside i l));
     }
 
--- after an opening that accepts, one request and then the other
-pub record RoundTrip (s : State) (medium : List ℕ) : Type 0 where
-  pub device : (q r : List ℕ) → Sound s q getScsiAddress → Sound s r getDeviceAddress → granted (replyOf (handled s medium q)) ≡ true
-      → part (bodyOf r) 0 4 ≡ part (bodyOf (handled s medium q .buffer)) 16 4
-      → (granted (replyOf (handled (handled s medium q .state) (handled s medium q .medium) r)) ≡ true)
-      × (part (bodyOf (handled (handled s medium q .state) (handled s medium q .medium) r .buffer)) 4 16 ≡ part (bodyOf q) 0 16)
-  pub os : (q r : List ℕ) → Sound s q getDeviceAddress → Sound s r getScsiAddress → granted (replyOf (handled s medium q)) ≡ true
-      → part (bodyOf r) 0 16 ≡ part (bodyOf (handled s medium q .buffer)) 4 16
-      → (granted (replyOf (handled (handled s medium q .state) (handled s medium q .medium) r)) ≡ true)
-      × (part (bodyOf (handled (handled s medium q .state) (handled s medium q .medium) r .buffer)) 16 4 ≡ part (bodyOf q) 0 4)
+-- rows never change
+rows-reached : (start p : Point) → Reached start p → AcceptedRows start → AcceptedRows p
+rows-reached start p i w =
+    record { number = i .number ∙ w .number; devices = rw (i .moved .rows, i .moved .rowCount) (w .devices); os = rw (i .moved .rows, i .moved .rowCount) (w .os) }
 
-pub round-trip : (text file medium : List ℕ) → openedOf text file medium .call ≡ 0 → RoundTrip (openedOf text file medium .state) medium
-round-trip text file medium h =
-    let s : State = openedOf text file medium .state in
-    let w : AcceptedRows s medium = opened-rows text file medium h in
-    record { device = device-returns s medium w; os = os-returns s medium w }
+-- after an opening that accepts and any list of requests
+pub round-trip : (text file medium : List ℕ) → openedOf text file medium .call ≡ 0 → (requests : List Request) → RoundTrip (wholeRun text file medium requests .point)
+round-trip text file medium h requests =
+    let start : Point = openedAt text file medium in
+    let p : Point = wholeRun text file medium requests .point in
+    both-ways p (rows-reached start p (reached start (sized-opened text file medium h) requests) (opened-rows text file medium h))

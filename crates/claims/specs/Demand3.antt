@@ -1,97 +1,134 @@
 -- The proof of demand 3: the comparison of two runs, and the last writer of both. Assumes nothing.
-use mathlib.Core.Path.{_≡_, refl, sym, _∙_, ap}
+use mathlib.Core.Path.{_≡_, refl, sym, _∙_, ap, ap₂}
 use mathlib.Core.Bool.{Bool, true, false, cond}
-use mathlib.Core.List.{List, [], _∷_}
+use mathlib.Core.List.{List}
 use Prim.Native.Nat.{ℕ, _<_, _≤_}
 use native.Mathlib.Omega.{arith}
 use native.Mathlib.Decide.{ℕ-discrete}
-use lib.Dec.{eqb}
-use lib.ListN.{length, getD}
-use Rattle.laws.specs.Choice.{either}
+use lib.Dec.{eqb, ltb}
+use lib.ListN.{length}
+use borrow.Author.Tests.{ltb-true, ltb-false}
+use Rattle.laws.specs.Choice.{by-bool, either}
+use Rattle.laws.specs.First.{first-same}
+use Rattle.laws.specs.Runs.{ends, log, fold-shown, noted, all-noted, kept, by-log, matched-own, Compared, compare}
 use Rattle.codes.specs.Codes.{badState}
 use Rattle.phy.specs.declared.Phy.{Phy}
+use Rattle.phy.specs.declared.PhyIdentifier.{PhyIdentifier}
+use Rattle.phy.specs.declared.PortIdentifier.{PortIdentifier}
 use Rattle.phy.specs.Block.{length-entity}
 use Rattle.phy.specs.Entity.{portOf, programmedMinimum, programmedMaximum}
-use Rattle.phy.specs.Kept.{Settings}
 use Rattle.level.specs.declared.Level.{Level}
 use Rattle.level.specs.Text.{textLevel}
 use Rattle.level.specs.Bound.{level-bound}
-use Rattle.layout.specs.Layout.{phyCount, rowCount, phyBlock, fileLength}
+use Rattle.layout.specs.Layout.{phyCount, rowCount, phyBlock}
 use Rattle.block.specs.Check.{blockAt, length-block}
 use Rattle.file.specs.File.{FileRead, phyAt, adapterOf, fileRead}
 use Rattle.file.specs.Accepted.{phy-read, length-phys}
-use Rattle.disk.specs.Laws.{sector}
-use Rattle.adapter.specs.Adapter.{phyIn, zeroAdapter, countsHold}
+use Rattle.adapter.specs.Adapter.{Adapter, phyIn, zeroAdapter, countsHold}
 use Rattle.adapter.specs.Store.{phys-bound}
-use Rattle.set_phy_info.specs.SetPhyInfo.{resulting}
-use Rattle.passthrough.specs.Passthrough.{diskOf}
-use Rattle.state.specs.State.{State, adapterHolds, stateHolds, zeroState}
-use Rattle.state.specs.Open.{Opened, openNumber, openedFile, openedText, openedOf}
+use Rattle.select.specs.Select.{lowestOf, selection, selectBy}
+use Rattle.select.specs.Laws.{selection-past}
+use Rattle.passthrough.specs.Passthrough.{phyAsked, portAsked}
+use Rattle.state.specs.State.{stateWith, adapterHolds, stateHolds, zeroState}
+use Rattle.state.specs.Open.{Opened, refused, opened, openNumber, openedFile, openedText, openedOf}
 use Rattle.state.specs.Accepted.{Open, open-accepted}
-use Rattle.dispatch.specs.Request.{stateNumber, bufferNumber, callNumber, untouched, handled}
-use Rattle.claims.specs.Run.{run, wholeRun, exchanges, given, sentOf}
-use Rattle.claims.specs.LastWriter.{sectorBy, rateBy}
-use Rattle.claims.specs.Claim.{LastWriterHalf, OneRun, lowerRun, Claim}
-use Rattle.claims.specs.Phys.{setNow, minimum-set, maximum-set}
-use Rattle.claims.specs.Effects.{FromFile, from-step, sector-step, rate-step}
-use Rattle.claims.specs.Compare.{all-answered, level-same, all-denied, compare}
+use Rattle.service.specs.Serve.{storeOf}
+use Rattle.dispatch.specs.Request.{Request, Point, pointOf, Outcome, stateNumber, bufferNumber, untouched, handled}
+use Rattle.claims.specs.Run.{Exchange, Entry, replyOf, exchangeOf, step, entryOf, run, openedAt, wholeRun, exchanges, requestsIn, notDenied, denial}
+use Rattle.claims.specs.LastWriter.{toldBy, Writer, after, last, Sector, sectorIn, sectorWriter, selectsBy, rateWriter}
+use Rattle.claims.specs.Claim.{LastWriterHalf, OneRun, givenBoth, higherRun, Claim}
+use Rattle.claims.specs.Steps.{denied-step, level-kept, Same, same-step}
+use Rattle.claims.specs.Moved.{Sized}
+use Rattle.claims.specs.Effect.{selectsIn}
+use Rattle.claims.specs.Reached.{request-effect, Reached, sized-reached, reached-step, reached-start, reached}
 
--- ---- over a list of requests
+-- ---- any last writer, over the points of a run
 
-sectors-by : (file : List ℕ) (s : State) (medium : List ℕ) (requests : List (List ℕ)) → FromFile file s medium → (n k : ℕ)
-    → sector (diskOf (run s medium requests .medium) n) k ≡ sectorBy file n k (sector (diskOf medium n) k) (exchanges (run s medium requests .log))
-unfolding run exchanges sectorBy
-sectors-by file s medium [] t n k = refl
-sectors-by file s medium (q ∷ qs) t n k =
-    sectors-by file (handled s medium q .state) (handled s medium q .medium) qs (from-step file s medium t q) n k
-    ∙ ap (λ (x : List ℕ). sectorBy file n k x (exchanges (run (handled s medium q .state) (handled s medium q .medium) qs .log))) (sector-step file s medium t q n k)
+module _ (start : Point) (z : Sized (start .state .adapter)) {K A : Type 0} (w : Writer K A) (key : K) (view : Point → A) where
+  last-by : ((p : Point) (r : Request) → Reached start p → view (step p r) ≡ after w key (toldBy (exchangeOf r (handled p r))) (view p))
+      → (requests : List Request) → view (ends step entryOf start requests) ≡ last w key (view start) (exchanges (log step entryOf start requests))
+  last-by s requests =
+      by-log step entryOf (Reached start) (reached-step start z) view (λ (e : Entry). after w key (toldBy (e .exchange))) s start requests (reached-start start z)
+      ∙ sym (fold-shown (λ (x : Exchange). after w key (toldBy x)) (λ (e : Entry). e .exchange) (view start) (log step entryOf start requests))
 
-size-kept : (file : List ℕ) (s : State) (medium : List ℕ) (requests : List (List ℕ)) → FromFile file s medium
-    → length (run s medium requests .medium) ≡ length medium
-unfolding run
-size-kept file s medium [] t = refl
-size-kept file s medium (q ∷ qs) t =
-    size-kept file (handled s medium q .state) (handled s medium q .medium) qs (from-step file s medium t q)
-    ∙ from-step file s medium t q .disks
-    ∙ sym (t .disks)
+-- ---- a selection goes by the ports below p alone
 
-module _ (place : ℕ) (rate : Phy → ℕ)
-    (sets : (phy : Phy) (b : List ℕ) → length (phy .entity) ≡ 64 → rate (setNow phy b) ≡ resulting (getD b place 0) (rate phy))
-    (same : (a b : Phy) → Settings a b → rate b ≡ rate a)
-  where
-    rates-by : (file : List ℕ) (s : State) (medium : List ℕ) (requests : List (List ℕ)) → FromFile file s medium → (n : ℕ)
-        → rate (phyIn (run s medium requests .state .adapter) n) ≡ rateBy place n (rate (phyIn (s .adapter) n)) (exchanges (run s medium requests .log))
-    unfolding run exchanges rateBy
-    rates-by file s medium [] t n = refl
-    rates-by file s medium (q ∷ qs) t n =
-        rates-by file (handled s medium q .state) (handled s medium q .medium) qs (from-step file s medium t q) n
-        ∙ ap (λ (x : ℕ). rateBy place n x (exchanges (run (handled s medium q .state) (handled s medium q .medium) qs .log))) (rate-step file s medium t q place rate sets same n)
+select-same : (f g : ℕ → PortIdentifier) (p : ℕ) (phy : PhyIdentifier) (port : PortIdentifier) → ((n : ℕ) → n < p → f n ≡ g n)
+    → selectBy f p phy port ≡ selectBy g p phy port
+unfolding selectBy lowestOf
+select-same f g p phy port h =
+    let l : lowestOf f p port ≡ lowestOf g p port =
+    first-same (λ (n : ℕ). eqb (f n .0) (port .0)) (λ (n : ℕ). eqb (g n .0) (port .0)) p (λ n k. ap (λ (x : PortIdentifier). eqb (x .0) (port .0)) (h n k)) in
+    rw l
+    (by-bool (λ (t : Bool). ltb (phy .0) p ≡ t
+    → selection phy port p (lowestOf g p port) (f (phy .0)) ≡ selection phy port p (lowestOf g p port) (g (phy .0)))
+    (λ e. rw (h (phy .0) (ltb-true (phy .0) p e)))
+    (λ e. selection-past phy port p (lowestOf g p port) (f (phy .0)) (g (phy .0)) (selection phy port p (lowestOf g p port) (f (phy .0))) (ltb-false (phy .0) p e) refl)
+    (ltb (phy .0) p) refl)
 
 -- ---- where the opening accepts
 
-pub opened-from : (text file medium : List ℕ) → openedOf text file medium .call ≡ 0 → FromFile file (openedOf text file medium .state) medium
-unfolding adapterOf phyAt
-opened-from text file medium h =
-    let o : Open text file medium = open-accepted text file medium h in
-    let p : ℕ = phyCount file in
-    let a : ℕ = rowCount file in
-    let b : p ≤ 32 = phys-bound p a true (sym (o .read .counts)) refl in
-    rw (o .opened)
-    (record {
-      bound = b;
-      count = refl;
-      disks = sym (o .disks);
-      phys = length-phys file p a b;
-      entities = λ n k. ap (λ (x : Phy). length (x .entity)) (phy-read file p a n k) ∙ entity-read n k (o .read .size);
-      ports = λ n k. ap portOf (phy-read file p a n k);
-    })
-  where
-    entity-read : (n : ℕ) → n < phyCount file → fileLength (phyCount file) (rowCount file) ≡ length file → length (phyAt file n .entity) ≡ 64
-    entity-read n k e = length-entity (blockAt file (phyBlock n)) (length-block file (phyBlock n) (omega arith))
+module _ (text file medium : List ℕ) (h : openedOf text file medium .call ≡ 0) where
+  abbrev start : Point
+  start = openedAt text file medium
+
+  opening : Open text file medium
+  opening = open-accepted text file medium h
+
+  few : phyCount file ≤ 32
+  few = phys-bound (phyCount file) (rowCount file) true (sym (opening .read .counts)) refl
+
+  -- the phys are the file's
+  starts : (n : ℕ) → n < phyCount file → phyIn (start .state .adapter) n ≡ phyAt file n
+  starts n l = rw (opening .opened) (phy-read file (phyCount file) (rowCount file) n l)
+
+  counted : start .state .adapter .«phy_count» ≡ phyCount file
+  unfolding adapterOf
+  counted = rw (opening .opened) refl
+
+  entity-read : (n : ℕ) → n < phyCount file → length (phyAt file n .entity) ≡ 64
+  unfolding phyAt
+  entity-read n k = length-entity (blockAt file (phyBlock n)) (length-block file (phyBlock n) (omega (arith, opening .read .size)))
+
+  pub sized-opened : Sized (start .state .adapter)
+  sized-opened =
+      record {
+        phys = rw (opening .opened) (length-phys file (phyCount file) (rowCount file) few);
+        entities = λ n k. let l : n < phyCount file = rw counted at k in ap (λ (x : Phy). length (x .entity)) (starts n l) ∙ entity-read n l;
+      }
+
+  -- the phy that a request selects is found from the file
+  selects-same : (p : Point) → Reached start p → (body : List ℕ) → selectsIn (p .state .adapter) body ≡ selectsBy file body
+  unfolding selectsBy
+  selects-same p i body =
+      rw (i .moved .count, counted)
+      (select-same (λ (n : ℕ). portOf (phyIn (p .state .adapter) n)) (λ (n : ℕ). portOf (phyAt file n)) (phyCount file) (phyAsked body) (portAsked body)
+      (λ n k. i .moved .phys n (sized-opened .entities n (rw counted k)) .port ∙ ap portOf (starts n k)))
+
+  sectors-last : (s : Sector) (requests : List Request) → sectorIn (wholeRun text file medium requests .point .store) s
+      ≡ last (sectorWriter (selectsBy file)) s (sectorIn (storeOf medium) s) (exchanges (wholeRun text file medium requests .log))
+  unfolding after
+  sectors-last s =
+      last-by start sized-opened (sectorWriter (selectsBy file)) s (λ (p : Point). sectorIn (p .store) s)
+      (λ p r i. rw (← (selects-same p i)) (request-effect p r (sized-reached start sized-opened p i) .store .sectors s))
+
+  minima-last : (n : ℕ) → n < phyCount file → (requests : List Request) → programmedMinimum (phyIn (wholeRun text file medium requests .point .state .adapter) n)
+      ≡ last (rateWriter 2) n (programmedMinimum (phyAt file n)) (exchanges (wholeRun text file medium requests .log))
+  minima-last n l requests =
+      rw (starts n l) at
+      (last-by start sized-opened (rateWriter 2) n (λ (p : Point). programmedMinimum (phyIn (p .state .adapter) n))
+      (λ p r i. request-effect p r (sized-reached start sized-opened p i) .tables .minima n) requests)
+
+  maxima-last : (n : ℕ) → n < phyCount file → (requests : List Request) → programmedMaximum (phyIn (wholeRun text file medium requests .point .state .adapter) n)
+      ≡ last (rateWriter 3) n (programmedMaximum (phyAt file n)) (exchanges (wholeRun text file medium requests .log))
+  maxima-last n l requests =
+      rw (starts n l) at
+      (last-by start sized-opened (rateWriter 3) n (λ (p : Point). programmedMaximum (phyIn (p .state .adapter) n))
+      (λ p r i. request-effect p r (sized-reached start sized-opened p i) .tables .maxima n) requests)
 
 -- ---- where it refuses
 
-pub opened-zero : (text file medium : List ℕ) → (openedOf text file medium .call ≡ 0 → ⊥) → openedOf text file medium .state ≡ zeroState
+opened-zero : (text file medium : List ℕ) → (openedOf text file medium .call ≡ 0 → ⊥) → openedOf text file medium .state ≡ zeroState
 unfolding openedOf openedText openedFile
 opened-zero text file medium =
     either Zero (eqb (textLevel text .call) 0)
@@ -102,81 +139,108 @@ opened-zero text file medium =
     Zero o = (o .call ≡ 0 → ⊥) → o .state ≡ zeroState
 
 -- 107 refuses the zero state, so it goes on as it is
-zero-step : (medium request : List ℕ) → handled zeroState medium request ≡ untouched badState zeroState medium request
-unfolding handled callNumber bufferNumber stateNumber stateHolds adapterHolds countsHold zeroState zeroAdapter
-zero-step medium request = refl
+zero-step : (medium : List ℕ) (r : Request) → handled (pointOf zeroState medium) r ≡ untouched badState (pointOf zeroState medium) r
+unfolding handled bufferNumber stateNumber stateHolds adapterHolds countsHold zeroState zeroAdapter
+zero-step medium r = refl
 
-zero-run : (medium : List ℕ) (requests : List (List ℕ)) → (run zeroState medium requests .state ≡ zeroState) × (run zeroState medium requests .medium ≡ medium)
-unfolding run
-zero-run medium [] = (refl, refl)
-zero-run medium (q ∷ qs) = rw (zero-step medium q) (zero-run medium qs)
+zero-run : (medium : List ℕ) (requests : List Request) → ends step entryOf (pointOf zeroState medium) requests ≡ pointOf zeroState medium
+zero-run medium requests =
+    kept step entryOf (λ (p : Point). p ≡ pointOf zeroState medium) (λ p r e. rw e (ap (λ (o : Outcome). o .point) (zero-step medium r)))
+    (pointOf zeroState medium) requests refl
+
+refused-run : (text file medium : List ℕ) (requests : List Request) → (openedOf text file medium .call ≡ 0 → ⊥)
+    → wholeRun text file medium requests .point ≡ pointOf zeroState medium
+refused-run text file medium requests h = rw (opened-zero text file medium h) (zero-run medium requests)
 
 -- ---- one run
 
-last-writer : (text file medium : List ℕ) (requests : List (List ℕ)) → LastWriterHalf text file medium (wholeRun text file medium requests)
-unfolding wholeRun
+last-writer : (text file medium : List ℕ) (requests : List Request) → LastWriterHalf text file medium (wholeRun text file medium requests)
 last-writer text file medium requests =
     record {
-      sectors = λ h n k _ _. sectors-by file (openedOf text file medium .state) medium requests (opened-from text file medium h) n k;
-      minima = λ h n l.
-          rates-by 2 programmedMinimum minimum-set (λ a b c. c .minimum) file (openedOf text file medium .state) medium requests (opened-from text file medium h) n
-          ∙ ap (λ (x : Phy). rateBy 2 n (programmedMinimum x) (exchanges (run (openedOf text file medium .state) medium requests .log))) (starts h n l);
-      maxima = λ h n l.
-          rates-by 3 programmedMaximum maximum-set (λ a b c. c .maximum) file (openedOf text file medium .state) medium requests (opened-from text file medium h) n
-          ∙ ap (λ (x : Phy). rateBy 3 n (programmedMaximum x) (exchanges (run (openedOf text file medium .state) medium requests .log))) (starts h n l);
+      sectors = λ h s _ _. sectors-last text file medium h s requests;
+      minima = λ h n l. minima-last text file medium h n l requests;
+      maxima = λ h n l. maxima-last text file medium h n l requests;
       size = kept-size (ℕ-discrete (openedOf text file medium .call) 0);
-      refusedState = λ h. rw (opened-zero text file medium h) (zero-run medium requests .0);
-      refusedMedium = λ h. rw (opened-zero text file medium h) (zero-run medium requests .1);
+      refusedState = λ h. ap (λ (p : Point). p .state) (refused-run text file medium requests h);
+      refusedStore = λ h. ap (λ (p : Point). p .store) (refused-run text file medium requests h);
     }
   where
-    kept-size : Dec (openedOf text file medium .call ≡ 0) → length (run (openedOf text file medium .state) medium requests .medium) ≡ length medium
-    kept-size (yes h) = size-kept file (openedOf text file medium .state) medium requests (opened-from text file medium h)
-    kept-size (no h) = rw (opened-zero text file medium h, zero-run medium requests .1) refl
+    kept-size : Dec (openedOf text file medium .call ≡ 0) → length (wholeRun text file medium requests .point .store .medium) ≡ length medium
+    kept-size (yes h) = reached (openedAt text file medium) (sized-opened text file medium h) requests .size
+    kept-size (no h) = ap (λ (p : Point). length (p .store .medium)) (refused-run text file medium requests h)
 
-    starts : openedOf text file medium .call ≡ 0 → (n : ℕ) → n < phyCount file → phyIn (openedOf text file medium .state .adapter) n ≡ phyAt file n
-    starts h n l = rw (open-accepted text file medium h .opened) (phy-read file (phyCount file) (rowCount file) n l)
-
--- ---- both
-
--- two openings of one file and one medium, by texts that give levels: the same tables, and levels in the texts' order
-record Paired (o p : Opened) : Type 0 where
-  tables : o .state .adapter ≡ p .state .adapter
-  levels : o .state .level .0 ≤ p .state .level .0
-  bound : p .state .level .0 ≤ 3
-
-paired-cond : (t : Bool) {a b c d : Opened} → Paired a c → Paired b d → Paired (cond t a b) (cond t c d)
-paired-cond true p q = p
-paired-cond false p q = q
-
-opened-paired : (l m : Level) (f : FileRead) (size : ℕ) → l .0 ≤ m .0 → m .0 ≤ 3 → Paired (openedFile l f size) (openedFile m f size)
-unfolding openedFile zeroState
-opened-paired l m f size h k =
-    paired-cond (eqb (openNumber f size) 0) (record { tables = refl; levels = h; bound = k }) (record { tables = refl; levels = omega arith; bound = omega arith })
-
-texts-paired : (low high file medium : List ℕ) → textLevel low .call ≡ 0 → textLevel high .call ≡ 0 → textLevel low .level .0 ≤ textLevel high .level .0
-    → Paired (openedOf low file medium) (openedOf high file medium)
-unfolding openedOf openedText
-texts-paired low high file medium p q h =
-    rw (p, q) (opened-paired (textLevel low .level) (textLevel high .level) (fileRead file) (length medium) h (level-bound high))
-
--- what holds of each run by itself
-one-run : (text file medium : List ℕ) (requests : List (List ℕ)) → OneRun text file medium requests (wholeRun text file medium requests)
-unfolding wholeRun
+one-run : (text file medium : List ℕ) (requests : List Request) → OneRun text file medium requests (wholeRun text file medium requests)
 one-run text file medium requests =
+    let p : Point = openedAt text file medium in
     record {
-      answered = all-answered (openedOf text file medium .state) medium requests;
-      level = level-same (openedOf text file medium .state) medium requests;
-      denials = all-denied (openedOf text file medium .state) medium requests;
+      answered = all-noted step entryOf (λ (e : Entry). e .exchange .sent) (λ _ _. refl) p requests;
+      level = kept step entryOf (λ (q : Point). q .state .level ≡ p .state .level) (λ q r e. level-kept q r ∙ e) p requests refl;
+      denials = noted step entryOf (λ (e : Entry). e .denied ≡ true → e .exchange .reply ≡ denial (e .exchange .sent))
+          (λ q r d. ap (λ (o : Outcome). replyOf o) (denied-step q r d)) p requests;
       last = last-writer text file medium requests;
     }
 
+-- ---- two runs
+
+-- two points that differ in the level alone, levels in order
+record Alike (p q : Point) : Type 0 where
+  adapter : p .state .adapter ≡ q .state .adapter
+  store : p .store ≡ q .store
+  levels : p .state .level .0 ≤ q .state .level .0
+  bound : q .state .level .0 ≤ 3
+
+after-denied : (p q : Point) (r : Request) → entryOf p r .denied ≡ true → Alike p q → Alike (step p r) q
+after-denied p q r d a =
+    let w : step p r ≡ p = ap (λ (o : Outcome). o .point) (denied-step p r d) in
+    rw w a
+
+after-given : (p q : Point) (r t : Request) → entryOf p r .denied ≡ false → r ≡ t → Alike p q
+    → Alike (step p r) (step q t) × (entryOf p r .exchange ≡ entryOf q t .exchange)
+after-given p q r t d e a =
+    let s : Same (handled p r) (handled q r) = same-step p q r (a .adapter) (a .store) (a .levels) (a .bound) d in
+    rw (← e) (
+      record {
+        adapter = s .adapter;
+        store = s .store;
+        levels = rw (level-kept p r, level-kept q r) (a .levels);
+        bound = rw (level-kept q r) (a .bound);
+      },
+      ap₂ (λ (call : ℕ) (buffer : List ℕ). record { sent = r; reply = record { call = call; buffer = buffer } }) (s .call) (s .buffer),
+    )
+
+-- two openings of one file and one medium, by texts that give levels
+opened-alike : (medium : List ℕ) (l m : Level) (f : FileRead) (size : ℕ) → l .0 ≤ m .0 → m .0 ≤ 3
+    → Alike (pointOf (openedFile l f size .state) medium) (pointOf (openedFile m f size .state) medium)
+unfolding openedFile zeroState
+opened-alike medium l m f size h k =
+    by-bool (λ (t : Bool). Alike (pointOf (cond t (opened l (f .adapter)) (refused (openNumber f size)) .state) medium)
+    (pointOf (cond t (opened m (f .adapter)) (refused (openNumber f size)) .state) medium))
+    (record { adapter = refl; store = refl; levels = h; bound = k }) (record { adapter = refl; store = refl; levels = omega arith; bound = omega arith })
+    (eqb (openNumber f size) 0)
+
+texts-alike : (low high file medium : List ℕ) → textLevel low .call ≡ 0 → textLevel high .call ≡ 0 → textLevel low .level .0 ≤ textLevel high .level .0
+    → Alike (openedAt low file medium) (openedAt high file medium)
+unfolding openedOf openedText
+texts-alike low high file medium p q h =
+    rw (p, q) (opened-alike medium (textLevel low .level) (textLevel high .level) (fileRead file) (length medium) h (level-bound high))
+
+-- the runs are given the same requests
+abbrev SameRequest : Point → Point → Request → Request → Type 0
+SameRequest p q r t = r ≡ t
+
+two-runs : (p q : Point) (requests : List Request) → Alike p q
+    → Compared step entryOf (λ (e : Entry). e .denied) SameRequest (λ (e : Entry). e .exchange) Alike p q requests (requestsIn (notDenied (run p requests .log)))
+two-runs p q requests a =
+    compare step entryOf (λ (e : Entry). e .denied) SameRequest (λ (e : Entry). e .exchange) Alike after-denied after-given p q requests
+    (requestsIn (notDenied (run p requests .log))) a
+    (matched-own step entryOf (λ (e : Entry). e .denied) SameRequest (λ (e : Entry). e .exchange .sent) (λ _ _. refl) (λ _ _ _. refl) p q requests)
+
 pub claim : Claim
-unfolding wholeRun
 claim low high file medium requests =
     record {
       lower = one-run low file medium requests;
-      higher = one-run high file medium (sentOf (given (lowerRun low high file medium requests .log)));
+      higher = one-run high file medium (givenBoth low high file medium requests);
       comparison = λ p q h.
-          let o = texts-paired low high file medium p q h in
-          compare (openedOf low file medium .state) (openedOf high file medium .state) medium medium requests (o .tables) refl (o .levels) (o .bound);
+          let c = two-runs (openedAt low file medium) (openedAt high file medium) requests (texts-alike low high file medium p q h) in
+          record { tables = ap (λ (ad : Adapter). stateWith (higherRun low high file medium requests .point .state .level) ad) (c .related .adapter); disks = c .related .store; replies = c .same };
     }

@@ -1,13 +1,13 @@
 -- The last writer of every sector and every programmed rate (document 01, "Two runs and the last writer"): by the file, the medium
 -- at the start, the requests as sent and their replies, never by a state. Assumes nothing.
 use mathlib.Core.Bool.{Bool, cond, _&&_, not}
-use mathlib.Core.List.{List, [], _∷_}
+use mathlib.Core.List.{List}
 use Prim.Native.Nat.{ℕ, _+_, _-_, _*_}
 use lib.Dec.{eqb}
 use lib.ListN.{getD}
+use Rattle.laws.specs.Runs.{fold}
 use Rattle.laws.specs.Splice.{part}
 use Rattle.codes.specs.Codes.{success, setPhyInfo, stpPassthru}
-use Rattle.wire.specs.Number.{number}
 use Rattle.phy.specs.Entity.{portOf, programmedMinimum, programmedMaximum}
 use Rattle.layout.specs.Layout.{phyCount}
 use Rattle.file.specs.File.{phyAt}
@@ -16,69 +16,99 @@ use Rattle.disk.specs.Laws.{sector, replyStatus, covers}
 use Rattle.select.specs.declared.Selection.{Selection}
 use Rattle.select.specs.Select.{selectBy}
 use Rattle.passthrough.specs.Passthrough.{phyAsked, portAsked, diskOf}
-use Rattle.header.specs.Header.{controlCode, bodyOf}
-use Rattle.claims.specs.Run.{Reply, Exchange}
+use Rattle.header.specs.Form.{behindHeader, returnCode}
+use Rattle.service.specs.Serve.{Store, storeOf}
+use Rattle.dispatch.specs.Request.{formOf, controlOf, bodyOf}
+use Rattle.claims.specs.Run.{Exchange}
+
+-- ---- what an exchange tells
 
 -- "granted if the call's number is 0 and the return code it wrote is 0 or 2000", which section 10 has as STATUS_SUCCESS and
 -- PHY_INFO_CHANGED, both 0
-unfoldable pub granted : Reply → Bool
-granted r = eqb (r .call) 0 && eqb (number (part (r .buffer) 20 4)) success
+unfoldable pub granted : Exchange → Bool
+granted x = eqb (x .reply .call) 0 && eqb (returnCode (formOf (x .sent)) (x .reply .buffer)) success
+
+-- whether it was granted, its control code, and the bodies of the request as sent and of its reply
+pub record Told : Type 0 where
+  pub granted : Bool
+  pub control : ℕ
+  pub body : List ℕ
+  pub reply : List ℕ
+
+unfoldable pub toldBy : Exchange → Told
+toldBy x =
+    record {
+      granted = granted x;
+      control = controlOf (x .sent);
+      body = bodyOf (x .sent);
+      reply = behindHeader (formOf (x .sent)) (x .reply .buffer);
+    }
+
+-- ---- any last writer
+
+-- of things found by a key: the control code that writes them, which of them a request writes, and what it puts there
+pub record Writer (K A : Type 0) : Type 0 where
+  pub code : ℕ
+  pub writes : K → Told → Bool
+  pub puts : K → Told → A
+
+module _ {K A : Type 0} (w : Writer K A) (key : K) where
+  -- "A granted code .. writes": what is there after one exchange, by what was there before
+  unfoldable pub after : Told → A → A
+  after t before = cond (t .granted && (eqb (t .control) (w .code) && w .writes key t)) (w .puts key t) before
+
+  -- what the last exchange that wrote it put there, or what was there at the start
+  abbrev pub last : A → List Exchange → A
+  last = fold (λ (x : Exchange). after (toldBy x))
 
 -- ---- sectors
 
--- "the disk of the phy it selects", found from the file and the request
-unfoldable pub selects : List ℕ → List ℕ → Selection
-selects file body = selectBy (λ n. portOf (phyAt file n)) (phyCount file) (phyAsked body) (portAsked body)
+-- sector k of phy n's disk
+pub record Sector : Type 0 where
+  pub phy : ℕ
+  pub number : ℕ
+
+abbrev pub sectorIn : Store → Sector → List ℕ
+sectorIn store s = sector (diskOf (store .medium) (s .phy)) (s .number)
 
 -- "A granted code 25 with command 30h and status 50h in its reply's status FIS writes as many sectors as its count says, from its
--- LBA on, on the disk of the phy it selects": it writes sector k of phy n's disk
-unfoldable pub writesSector : List ℕ → ℕ → ℕ → Exchange → Bool
-writesSector file n k x =
-    granted (x .reply)
-    && eqb (controlCode (x .sent)) stpPassthru
-    && eqb (command (bodyOf (x .sent))) 0x30
-    && eqb (replyStatus (bodyOf (x .reply .buffer))) 0x50
-    && eqb (selects file (bodyOf (x .sent)) .code) success
-    && eqb (selects file (bodyOf (x .sent)) .phy .0) n
-    && covers (bodyOf (x .sent)) k
+-- LBA on, on the disk of the phy it selects: sector LBA + i gets bytes 512 × i to 512 × i + 511 of its bDataBuffer"
+abbrev pub sectorWriter : (List ℕ → Selection) → Writer Sector (List ℕ)
+sectorWriter selects =
+    record {
+      code = stpPassthru;
+      writes = λ s t.
+          eqb (command (t .body)) 0x30
+          && eqb (replyStatus (t .reply)) 0x50
+          && eqb (selects (t .body) .code) success
+          && eqb (selects (t .body) .phy .0) (s .phy)
+          && covers (t .body) (s .number);
+      puts = λ s t. part (t .body) (136 + 512 * (s .number - lba (t .body))) 512;
+    }
 
--- "sector LBA + i gets bytes 512 × i to 512 × i + 511 of its bDataBuffer"
-unfoldable pub sectorAfter : List ℕ → ℕ → ℕ → Exchange → List ℕ → List ℕ
-sectorAfter file n k x before =
-    cond (writesSector file n k x) (part (bodyOf (x .sent)) (136 + 512 * (k - lba (bodyOf (x .sent)))) 512) before
-
--- what sector k of phy n's disk holds after a list of exchanges, by what it held before
-unfoldable pub sectorBy : List ℕ → ℕ → ℕ → List ℕ → List Exchange → List ℕ
-sectorBy file n k before [] = before
-sectorBy file n k before (x ∷ xs) = sectorBy file n k (sectorAfter file n k x before) xs
+-- "the phy it selects", found from the file and the request
+unfoldable pub selectsBy : List ℕ → List ℕ → Selection
+selectsBy file body = selectBy (λ n. portOf (phyAt file n)) (phyCount file) (phyAsked body) (portAsked body)
 
 -- "A sector starts as the medium has it"
-abbrev pub lastSector : List ℕ → List ℕ → List Exchange → ℕ → ℕ → List ℕ
-lastSector file medium xs n k = sectorBy file n k (sector (diskOf medium n) k) xs
+abbrev pub lastSector : List ℕ → List ℕ → List Exchange → Sector → List ℕ
+lastSector file medium xs s = last (sectorWriter (selectsBy file)) s (sectorIn (storeOf medium) s) xs
 
 -- ---- programmed rates
 
--- "A granted code 21 writes its phy's programmed minimum if the request's byte for it isn't 0, and the maximum likewise": the
--- bytes stand at 2 and at 3 of the body
-unfoldable pub writesRate : ℕ → ℕ → Exchange → Bool
-writesRate place n x =
-    granted (x .reply)
-    && eqb (controlCode (x .sent)) setPhyInfo
-    && eqb (getD (bodyOf (x .sent)) 0 0) n
-    && not (eqb (getD (bodyOf (x .sent)) place 0) 0)
-
--- "that byte is the rate"
-unfoldable pub rateAfter : ℕ → ℕ → Exchange → ℕ → ℕ
-rateAfter place n x before = cond (writesRate place n x) (getD (bodyOf (x .sent)) place 0) before
-
--- the rate after a list of exchanges, by what it was before
-unfoldable pub rateBy : ℕ → ℕ → ℕ → List Exchange → ℕ
-rateBy place n before [] = before
-rateBy place n before (x ∷ xs) = rateBy place n (rateAfter place n x before) xs
+-- "A granted code 21 writes its phy's programmed minimum if the request's byte for it isn't 0, and the maximum likewise; that byte is
+-- the rate": the bytes stand at 2 and at 3 of the body
+abbrev pub rateWriter : ℕ → Writer ℕ ℕ
+rateWriter place =
+    record {
+      code = setPhyInfo;
+      writes = λ n t. eqb (getD (t .body) 0 0) n && not (eqb (getD (t .body) place 0) 0);
+      puts = λ n t. getD (t .body) place 0;
+    }
 
 -- "a programmed rate [starts] as the file does"
 abbrev pub lastMinimum : List ℕ → List Exchange → ℕ → ℕ
-lastMinimum file xs n = rateBy 2 n (programmedMinimum (phyAt file n)) xs
+lastMinimum file xs n = last (rateWriter 2) n (programmedMinimum (phyAt file n)) xs
 
 abbrev pub lastMaximum : List ℕ → List Exchange → ℕ → ℕ
-lastMaximum file xs n = rateBy 3 n (programmedMaximum (phyAt file n)) xs
+lastMaximum file xs n = last (rateWriter 3) n (programmedMaximum (phyAt file n)) xs

@@ -2,12 +2,12 @@ pub mod Run
 pub mod LastWriter
 pub mod Claim
 pub mod Steps
-pub mod Compare
-pub mod Phys
-pub mod Disks
 pub mod Ways
-pub mod Effects
-pub mod Held
+pub mod Moved
+pub mod Effect
+pub mod PhyEffects
+pub mod DiskEffect
+pub mod Reached
 pub mod Demand3
 pub mod Conversions
 pub mod Starred

@@ -1,17 +1,14 @@
--- Runs (document 01, "Two runs and the last writer"). A request is the bytes of its buffer as sent, "each in a buffer of its own". The
--- opening only reads the medium. Assumes nothing.
-use mathlib.Core.Bool.{Bool, cond, _&&_}
-use mathlib.Core.List.{List, [], _∷_}
+-- Runs (document 01, "Two runs and the last writer"), by the laws of any step (laws/specs/Runs.antt). The opening only reads the medium.
+-- Assumes nothing.
+use mathlib.Core.Bool.{Bool, _&&_}
+use mathlib.Core.List.{List}
 use Prim.Native.Nat.{ℕ}
 use lib.Dec.{eqb}
-use lib.ListN.{length}
-use Rattle.laws.specs.Splice.{splice}
-use Rattle.codes.specs.Codes.{success, writeAttempted}
-use Rattle.wire.specs.Number.{bytes}
-use Rattle.state.specs.State.{State}
+use Rattle.laws.specs.Runs.{ends, log, shownBy, undropped}
+use Rattle.codes.specs.Codes.{writeAttempted}
 use Rattle.state.specs.Open.{openedOf}
-use Rattle.header.specs.Header.{headerCode, above}
-use Rattle.dispatch.specs.Request.{Outcome, callNumber, handled}
+use Rattle.header.specs.Form.{withCode}
+use Rattle.dispatch.specs.Request.{Request, formOf, needAbove, Point, pointOf, Outcome, callNumber, handled}
 
 -- "A reply is the call's number and the whole buffer afterwards"
 pub record Reply : Type 0 where
@@ -24,7 +21,7 @@ replyOf o = record { call = o .call; buffer = o .buffer }
 
 -- a request as sent, and its reply
 pub record Exchange : Type 0 where
-  pub sent : List ℕ
+  pub sent : Request
   pub reply : Reply
 
 -- the same, and whether it was denied when it came
@@ -33,51 +30,52 @@ pub record Entry : Type 0 where
   pub denied : Bool
 
 -- "A request is denied if it passes all before the level and its need is above it"
-unfoldable pub denied : State → List ℕ → List ℕ → Bool
-denied s medium buffer =
-    eqb (callNumber s (length medium) (length buffer)) 0 && eqb (headerCode buffer) success && above (s .level) buffer
+unfoldable pub denied : Point → Request → Bool
+denied p r = eqb (callNumber p r) 0 && needAbove (p .state .level) r
 
--- what a run leaves: the state, the medium, and its requests and replies in order
+-- ---- a run
+
+-- "Each request gets the state that the call before it returned and the medium as that call left it"
+abbrev pub step : Point → Request → Point
+step p r = handled p r .point
+
+-- what is noted of it
+abbrev pub exchangeOf : Request → Outcome → Exchange
+exchangeOf r o = record { sent = r; reply = replyOf o }
+
+abbrev pub entryOf : Point → Request → Entry
+entryOf p r = record { exchange = exchangeOf r (handled p r); denied = denied p r }
+
+-- what a run leaves: where it ends, and its requests and replies in order
 pub record End : Type 0 where
-  pub state : State
-  pub medium : List ℕ
+  pub point : Point
   pub log : List Entry
 
--- one request in a state and a medium
-abbrev pub entryOf : State → List ℕ → List ℕ → Entry
-entryOf s medium request =
-    record { exchange = record { sent = request; reply = replyOf (handled s medium request) }; denied = denied s medium request }
-
--- a run with one request before it
-abbrev pub preceded : Entry → End → End
-preceded e end = record { state = end .state; medium = end .medium; log = e ∷ end .log }
-
--- "a list of requests in order .. Each request gets the state that the call before it returned and the medium as that call left it"
-unfoldable pub run : State → List ℕ → List (List ℕ) → End
-run s medium [] = record { state = s; medium = medium; log = [] }
-run s medium (q ∷ qs) = preceded (entryOf s medium q) (run (handled s medium q .state) (handled s medium q .medium) qs)
+-- "a list of requests in order: none, one or many, refused ones too"
+abbrev pub run : Point → List Request → End
+run p requests = record { point = ends step entryOf p requests; log = log step entryOf p requests }
 
 -- "A run is an opening, then a list of requests .., the first from the opening .. Where the opening refuses, the zero state goes on"
-unfoldable pub wholeRun : List ℕ → List ℕ → List ℕ → List (List ℕ) → End
-wholeRun text file medium requests = run (openedOf text file medium .state) medium requests
+abbrev pub openedAt : List ℕ → List ℕ → List ℕ → Point
+openedAt text file medium = pointOf (openedOf text file medium .state) medium
+
+abbrev pub wholeRun : List ℕ → List ℕ → List ℕ → List Request → End
+wholeRun text file medium requests = run (openedAt text file medium) requests
 
 -- ---- the parts of a log
 
 -- requests and replies alone
-unfoldable pub exchanges : List Entry → List Exchange
-exchanges [] = []
-exchanges (e ∷ es) = e .exchange ∷ exchanges es
-
--- the exchanges that were not denied: what both runs are given
-unfoldable pub given : List Entry → List Exchange
-given [] = []
-given (e ∷ es) = cond (e .denied) (given es) (e .exchange ∷ given es)
+abbrev pub exchanges : List Entry → List Exchange
+exchanges = shownBy (λ (e : Entry). e .exchange)
 
 -- the requests
-unfoldable pub sentOf : List Exchange → List (List ℕ)
-sentOf [] = []
-sentOf (x ∷ xs) = x .sent ∷ sentOf xs
+abbrev pub requestsIn : List Entry → List Request
+requestsIn = shownBy (λ (e : Entry). e .exchange .sent)
+
+-- the entries that were not denied: what both runs are given
+abbrev pub notDenied : List Entry → List Entry
+notDenied = undropped (λ (e : Entry). e .denied)
 
 -- the reply to a denied request: only its return code is changed, and the call's number is 0
-abbrev pub denial : List ℕ → Reply
-denial request = record { call = 0; buffer = splice request 20 (bytes 4 writeAttempted) }
+abbrev pub denial : Request → Reply
+denial r = record { call = 0; buffer = withCode (formOf r) (r .buffer) writeAttempted }

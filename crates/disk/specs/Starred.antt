@@ -1,16 +1,23 @@
--- The starred disk cases of document 01 ("Starred cases"), by computation on the definitions. Assumes nothing.
+-- The starred disk cases of document 01 ("Starred cases"), by computation on the definitions. Each is the answer to the body of a code 25.
+-- Assumes nothing.
 use mathlib.Core.Path.{refl}
-use mathlib.Core.Bool.{true}
-use mathlib.Core.List.{List, [], _∷_}
+use mathlib.Core.List.{List, [], _∷_, _++_}
 use Prim.Native.Nat.{ℕ}
+use lib.ListN.{replicate}
 use Rattle.laws.specs.Cases.{Case, Holds, All}
-use Rattle.disk.specs.Disk.{countOf, transfer, judged}
+use Rattle.disk.specs.Disk.{countOf, asked, transfer, judged, answer}
 
--- "Disk, bit 6 set": a command, its LBA and its count byte, with the status and the error
+-- a body up to its command FIS, whose bytes from 0 on are: its type, the flag of a command, the command's code, features; the LBA's three lower bytes
+-- and byte 7; the LBA's and the features' further bytes; the count byte
+abbrev pub bodyWith : ℕ → ℕ → ℕ → ℕ → List ℕ
+bodyWith command lba seven byte =
+    replicate 16 0 ++ (0x27 ∷ 0x80 ∷ command ∷ 0 ∷ lba ∷ 0 ∷ 0 ∷ seven ∷ 0 ∷ 0 ∷ 0 ∷ 0 ∷ byte ∷ [])
+
+-- "Disk, bit 6 set": a command, the lowest byte of its LBA and its count byte, with the status and the error
 abbrev pub bitSet : ℕ → ℕ → ℕ → ℕ → ℕ → Case
 bitSet command lba byte status error =
     record {
-      gives = judged command true lba (countOf byte) .status ∷ judged command true lba (countOf byte) .error ∷ [];
+      gives = answer (bodyWith command lba 0x40 byte) .status ∷ answer (bodyWith command lba 0x40 byte) .error ∷ [];
       said = status ∷ error ∷ [];
     }
 
@@ -25,5 +32,5 @@ cases =
     ∷ []
 
 pub starred : All Holds cases
-unfolding countOf transfer judged
+unfolding asked countOf transfer judged
 starred = (refl, (refl, (refl, (refl, (refl, (refl, tt))))))

@@ -1,88 +1,132 @@
--- One request (document 01, "Request", "From the input", "From the state"): the call's number, the state, the medium and the buffer
+-- One request (document 01, "Request", "From the input", "From the state"): the call's number, the state, what is lent beside it and the buffer
 -- that it leaves, after refusals as after success. Assumes nothing.
 use mathlib.Core.Path.{_≡_}
-use mathlib.Core.Bool.{cond}
+use mathlib.Core.Bool.{Bool, cond}
 use mathlib.Core.List.{List, _++_}
 use Prim.Native.Nat.{ℕ}
 use lib.Dec.{eqb, ltb}
 use lib.ListN.{length, take}
-use Rattle.laws.specs.Splice.{splice}
 use Rattle.codes.specs.Codes.{success, shortBuffer, mediumLength, badState}
-use Rattle.wire.specs.Number.{bytes}
 use Rattle.level.specs.declared.Level.{Level}
 use Rattle.state.specs.State.{State, stateWith, stateSize, stateOf, stateHolds}
 use Rattle.adapter.specs.Adapter.{Adapter, mediumSize}
-use Rattle.header.specs.Header.{controlCode, bodyOf, accessCode}
-use Rattle.service.specs.Serve.{Served, served}
+use Rattle.header.specs.Form.{Form, srb, behindHeader, withCode}
+use Rattle.header.specs.Header.{controlCode, levelRefuses, accessCode}
+use Rattle.service.specs.Serve.{Store, storeOf, Served, served}
+
+-- ---- what is sent
+
+-- a request is its buffer: "A buffer starts with the 28-byte SRB_IO_CONTROL"
+pub record Request : Type 0 where
+  pub buffer : List ℕ
+
+abbrev pub requestOf : List ℕ → Request
+requestOf buffer = record { buffer = buffer }
+
+-- its header's form, its control code, and the body behind the header
+abbrev pub formOf : Request → Form
+formOf r = srb
+
+abbrev pub controlOf : Request → ℕ
+controlOf r = controlCode (r .buffer)
+
+abbrev pub bodyOf : Request → List ℕ
+bodyOf r = behindHeader (formOf r) (r .buffer)
+
+-- the return code of its header's checks and of the level's, or 0
+abbrev pub checksCode : Level → Request → ℕ
+checksCode level r = accessCode level (r .buffer)
+
+-- it passes its header's checks and "its need is above" the level
+abbrev pub needAbove : Level → Request → Bool
+needAbove level r = levelRefuses level (r .buffer)
+
+-- ---- where it is sent to, and what it leaves
+
+-- the state, and what is lent beside it and written
+pub record Point : Type 0 where
+  pub state : State
+  pub store : Store
+
+abbrev pub point : State → Store → Point
+point s store = record { state = s; store = store }
+
+abbrev pub pointOf : State → List ℕ → Point
+pointOf s medium = point s (storeOf medium)
 
 -- what a call leaves
 pub record Outcome : Type 0 where
   pub call : ℕ
-  pub state : State
-  pub medium : List ℕ
+  pub point : Point
   pub buffer : List ℕ
 
-abbrev pub outcome : ℕ → State → List ℕ → List ℕ → Outcome
-outcome call s medium buffer = record { call = call; state = s; medium = medium; buffer = buffer }
+abbrev pub outcome : ℕ → Point → List ℕ → Outcome
+outcome call p buffer = record { call = call; point = p; buffer = buffer }
+
+-- ---- the call's number
 
 -- "state; medium length": the call's number of the first that fails, or 0. Nothing of the request is looked at
 unfoldable pub stateNumber : State → ℕ → ℕ
 stateNumber s medium = cond (stateHolds s) (cond (eqb (mediumSize (s .adapter)) medium) 0 mediumLength) badState
 
+abbrev pub pointNumber : Point → ℕ
+pointNumber p = stateNumber (p .state) (length (p .store .medium))
+
 -- "buffer of 28 bytes", where the number of the checks before it is 0
-unfoldable pub bufferNumber : ℕ → ℕ → ℕ
-bufferNumber number buffer = cond (eqb number 0) (cond (ltb buffer 28) shortBuffer 0) number
+unfoldable pub bufferNumber : Form → ℕ → ℕ → ℕ
+bufferNumber f number buffer = cond (eqb number 0) (cond (ltb buffer (f .size)) shortBuffer 0) number
 
 -- "state; medium length; buffer of 28 bytes"
-unfoldable pub callNumber : State → ℕ → ℕ → ℕ
-callNumber s medium buffer = bufferNumber (stateNumber s medium) buffer
+abbrev pub callNumber : Point → Request → ℕ
+callNumber p r = bufferNumber (formOf r) (pointNumber p) (length (r .buffer))
 
 -- "with any other [number], buffer, state and medium are untouched"
-abbrev pub untouched : ℕ → State → List ℕ → List ℕ → Outcome
-untouched call s medium buffer = outcome call s medium buffer
+abbrev pub untouched : ℕ → Point → Request → Outcome
+untouched call p r = outcome call p (r .buffer)
 
--- the return code, the tables and counters, the disks, and the buffer before its return code is written
+-- ---- the return code and the effect
+
+-- the return code, the tables and counters, what is stored beside them, and the buffer before its return code is written
 pub record Answer : Type 0 where
   pub code : ℕ
   pub adapter : Adapter
-  pub medium : List ℕ
+  pub store : Store
   pub buffer : List ℕ
 
-abbrev pub answer : ℕ → Adapter → List ℕ → List ℕ → Answer
-answer code ad medium buffer = record { code = code; adapter = ad; medium = medium; buffer = buffer }
+abbrev pub answer : ℕ → Adapter → Store → List ℕ → Answer
+answer code ad store buffer = record { code = code; adapter = ad; store = store; buffer = buffer }
 
 -- the body back behind its header
-abbrev pub inBuffer : List ℕ → Served → Answer
-inBuffer buffer s = answer (s .code) (s .adapter) (s .medium) (take 28 buffer ++ s .body)
+abbrev pub inBuffer : Request → Served → Answer
+inBuffer r s = answer (s .code) (s .adapter) (s .store) (take (formOf r .size) (r .buffer) ++ s .body)
 
 -- a request that a check up to the level refuses: nothing is changed but the code, which is still to be written
-abbrev pub refused : ℕ → Adapter → List ℕ → List ℕ → Answer
-refused code ad medium buffer = answer code ad medium buffer
+abbrev pub refused : ℕ → Adapter → Store → Request → Answer
+refused code ad store r = answer code ad store (r .buffer)
 
 -- "then the code's own checks", where the checks up to the level gave 0; else their code
-unfoldable pub answered : Adapter → List ℕ → List ℕ → ℕ → Answer
-answered ad medium buffer code =
-    cond (eqb code success) (inBuffer buffer (served ad medium (controlCode buffer) (bodyOf buffer))) (refused code ad medium buffer)
+unfoldable pub answered : Adapter → Store → Request → ℕ → Answer
+answered ad store r code = cond (eqb code success) (inBuffer r (served ad store (controlOf r) (bodyOf r))) (refused code ad store r)
 
--- "the return code is bytes 20–23", and "The call's number is 0 when a return code is written"
-abbrev pub replied : Level → Answer → Outcome
-replied level a =
-    outcome 0 (stateWith level (a .adapter)) (a .medium) (splice (a .buffer) 20 (bytes 4 (a .code)))
+-- the return code in its place, and "The call's number is 0 when a return code is written"
+abbrev pub replied : Form → Level → Answer → Outcome
+replied f level a = outcome 0 (point (stateWith level (a .adapter)) (a .store)) (withCode f (a .buffer) (a .code))
 
--- a buffer of 28 bytes or more: the checks from HeaderLength on, and the return code written
-unfoldable pub answeredAt : State → List ℕ → List ℕ → Outcome
-answeredAt s medium buffer = replied (s .level) (answered (s .adapter) medium buffer (accessCode (s .level) buffer))
+-- a buffer with room for its header: the checks from HeaderLength on, and the return code written
+unfoldable pub answeredAt : Point → Request → Outcome
+answeredAt p r = replied (formOf r) (p .state .level) (answered (p .state .adapter) (p .store) r (checksCode (p .state .level) r))
 
 -- "Checks, in order: state; medium length; buffer of 28 bytes; HeaderLength 28; .."
-unfoldable pub handled : State → List ℕ → List ℕ → Outcome
-handled s medium buffer =
-    cond (eqb (callNumber s (length medium) (length buffer)) 0) (answeredAt s medium buffer)
-    (untouched (callNumber s (length medium) (length buffer)) s medium buffer)
+unfoldable pub handled : Point → Request → Outcome
+handled p r = cond (eqb (callNumber p r) 0) (answeredAt p r) (untouched (callNumber p r) p r)
 
--- the call, on a state that is lent as bytes: its number, and the bytes of all three afterwards
+-- ---- the call
+
+-- on a state that is lent as bytes: its number, and the bytes of all three afterwards
 pub record RequestCall (state medium buffer : List ℕ) (call : ℕ) (state′ medium′ buffer′ : List ℕ) : Type 0 where
   pub size : length state′ ≡ length state
-  pub whole : length state ≡ stateSize → outcome call (stateOf state′) medium′ buffer′ ≡ handled (stateOf state) medium buffer
+  pub whole : length state ≡ stateSize
+      → outcome call (pointOf (stateOf state′) medium′) buffer′ ≡ handled (pointOf (stateOf state) medium) (requestOf buffer)
   -- another length is 107, before every other check, and nothing is touched
   pub otherCall : (length state ≡ stateSize → ⊥) → call ≡ badState
   pub otherState : (length state ≡ stateSize → ⊥) → state′ ≡ state

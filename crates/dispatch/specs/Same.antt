@@ -5,16 +5,16 @@ use Prim.Native.Nat.{ℕ}
 use native.Mathlib.Decide.{ℕ-discrete}
 use lib.ListN.{length}
 use Rattle.wire.specs.Number.{Bytes}
-use Rattle.state.specs.State.{stateSize}
+use Rattle.state.specs.State.{stateSize, stateOf}
 use Rattle.state.specs.Same.{state-same}
-use Rattle.dispatch.specs.Request.{Outcome, RequestCall}
+use Rattle.dispatch.specs.Request.{Outcome, pointOf, outcome, RequestCall}
 
 module _ (state medium buffer : List ℕ) (c d : ℕ) (s t m n b r : List ℕ) (o : RequestCall state medium buffer c s m b) (q : RequestCall state medium buffer d t n r) where
   pub request-same-state : Bytes s → Bytes t → s ≡ t
   request-same-state h k = at (ℕ-discrete (length state) stateSize)
     where
       at : Dec (length state ≡ stateSize) → s ≡ t
-      at (yes e) = state-same s t (o .size ∙ e) (q .size ∙ e) h k (ap (λ (x : Outcome). x .state) (o .whole e ∙ sym (q .whole e)))
+      at (yes e) = state-same s t (o .size ∙ e) (q .size ∙ e) h k (ap (λ (x : Outcome). x .point .state) (o .whole e ∙ sym (q .whole e)))
       at (no z) = o .otherState z ∙ sym (q .otherState z)
 
   pub request-same : (c ≡ d) × (m ≡ n) × (b ≡ r)
@@ -22,6 +22,6 @@ module _ (state medium buffer : List ℕ) (c d : ℕ) (s t m n b r : List ℕ) (
     where
       at : Dec (length state ≡ stateSize) → (c ≡ d) × (m ≡ n) × (b ≡ r)
       at (yes e) =
-          let x : _≡_ {A = Outcome} (record { call = c; state = _; medium = m; buffer = b }) (record { call = d; state = _; medium = n; buffer = r }) = o .whole e ∙ sym (q .whole e) in
-          (ap (λ (y : Outcome). y .call) x, ap (λ (y : Outcome). y .medium) x, ap (λ (y : Outcome). y .buffer) x)
+          let x : outcome c (pointOf (stateOf s) m) b ≡ outcome d (pointOf (stateOf t) n) r = o .whole e ∙ sym (q .whole e) in
+          (ap (λ (y : Outcome). y .call) x, ap (λ (y : Outcome). y .point .store .medium) x, ap (λ (y : Outcome). y .buffer) x)
       at (no z) = (o .otherCall z ∙ sym (q .otherCall z), o .otherMedium z ∙ sym (q .otherMedium z), o .otherBuffer z ∙ sym (q .otherBuffer z))

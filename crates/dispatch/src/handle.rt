@@ -4,28 +4,27 @@ ghost use mathlib.Core.Path.{_≡_};
 ghost use mathlib.Core.Bool.{true};
 ghost use Prim.Native.Nat.{_+_, _≤_};
 ghost use lib.ListN.{length};
-ghost use Rattle.laws.specs.Splice.{part, splice};
-ghost use Rattle.wire.specs.Number.{number, bytes};
 ghost use Rattle.adapter.specs.Adapter.{mediumSize};
 ghost use Rattle.tables.specs.Tables.{tablesSize, tablesOf};
 ghost use Rattle.header.specs.Table.{structureSize, dataSize};
-ghost use Rattle.header.specs.Header.{controlCode, bodyOf, accessCode};
-ghost use Rattle.service.specs.Serve.{served};
+ghost use Rattle.header.specs.Form.{srb, returnCode, withCode};
+ghost use Rattle.service.specs.Serve.{storeOf, served};
 ghost use Rattle.state.specs.State.{stateWith, stateSize, stateOf, stateHolds};
-ghost use Rattle.dispatch.specs.Request.{outcome, stateNumber, bufferNumber, callNumber, answer, inBuffer, answered, answeredAt, handled, RequestCall};
+ghost use Rattle.dispatch.specs.Request.{requestOf, controlOf, bodyOf, checksCode, pointOf, outcome, stateNumber, bufferNumber, answer, inBuffer, answered, answeredAt, handled, RequestCall};
 
 // The body behind the header is lent to the code's own checks and effect.
 fn serve_body(tables: &mut [u8], medium: &mut [u8], buffer: &mut [u8]) -> u32
     requires { ⌜ length (now tables) ≡ tablesSize ⌝ }
     requires { ⌜ (tablesOf (now tables) .«phy_count» ≤ 32) × (tablesOf (now tables) .«row_count» ≤ 64) ⌝ }
     requires { ⌜ length (now medium) ≡ mediumSize (tablesOf (now tables)) ⌝ }
-    requires { ⌜ 28 ≤ length (now buffer) ⌝ }
-    requires { ⌜ structureSize (controlCode (now buffer)) + dataSize (controlCode (now buffer)) (bodyOf (now buffer)) ≤ length (bodyOf (now buffer)) ⌝ }
-    ensures { λ code. ⌜ answer code (tablesOf (now (tables .exit))) (now (medium .exit)) (now (buffer .exit))
-        ≡ inBuffer (now (buffer .entry)) (served (tablesOf (now (tables .entry))) (now (medium .entry)) (controlCode (now (buffer .entry))) (bodyOf (now (buffer .entry)))) ⌝ }
+    requires { ⌜ srb .size ≤ length (now buffer) ⌝ }
+    requires { ⌜ structureSize (controlOf (requestOf (now buffer))) + dataSize (controlOf (requestOf (now buffer))) (bodyOf (requestOf (now buffer)))
+        ≤ length (bodyOf (requestOf (now buffer))) ⌝ }
+    ensures { λ code. ⌜ answer code (tablesOf (now (tables .exit))) (storeOf (now (medium .exit))) (now (buffer .exit))
+        ≡ inBuffer (requestOf (now (buffer .entry))) (served (tablesOf (now (tables .entry))) (storeOf (now (medium .entry))) (controlOf (requestOf (now (buffer .entry)))) (bodyOf (requestOf (now (buffer .entry))))) ⌝ }
 {
     let control = header::control_code(buffer);
-    service::serve(tables, medium, control, &mut buffer[28..])
+    service::serve(tables, medium, control, &mut buffer[header::SIZE..])
 }
 
 // The header's checks and the level, and then the code's own.
@@ -33,9 +32,9 @@ fn check_and_serve(level: Level, tables: &mut [u8], medium: &mut [u8], buffer: &
     requires { ⌜ length (now tables) ≡ tablesSize ⌝ }
     requires { ⌜ (tablesOf (now tables) .«phy_count» ≤ 32) × (tablesOf (now tables) .«row_count» ≤ 64) ⌝ }
     requires { ⌜ length (now medium) ≡ mediumSize (tablesOf (now tables)) ⌝ }
-    requires { ⌜ 28 ≤ length (now buffer) ⌝ }
-    ensures { λ code. ⌜ answer code (tablesOf (now (tables .exit))) (now (medium .exit)) (now (buffer .exit))
-        ≡ answered (tablesOf (now (tables .entry))) (now (medium .entry)) (now (buffer .entry)) (accessCode level (now (buffer .entry))) ⌝ }
+    requires { ⌜ srb .size ≤ length (now buffer) ⌝ }
+    ensures { λ code. ⌜ answer code (tablesOf (now (tables .exit))) (storeOf (now (medium .exit))) (now (buffer .exit))
+        ≡ answered (tablesOf (now (tables .entry))) (storeOf (now (medium .entry))) (requestOf (now (buffer .entry))) (checksCode level (requestOf (now (buffer .entry)))) ⌝ }
 {
     let code = header::access_code(level, buffer);
     if code == codes::SUCCESS {
@@ -46,11 +45,11 @@ fn check_and_serve(level: Level, tables: &mut [u8], medium: &mut [u8], buffer: &
 
 // The return code is written here, and nowhere else.
 fn write_code(buffer: &mut [u8], code: u32) -> u32
-    requires { ⌜ 28 ≤ length (now buffer) ⌝ }
-    ensures { λ _. ⌜ now (buffer .exit) ≡ splice (now (buffer .entry)) 20 (bytes 4 code) ⌝ }
-    ensures { λ r. ⌜ r ≡ number (part (now (buffer .exit)) 20 4) ⌝ }
+    requires { ⌜ srb .size ≤ length (now buffer) ⌝ }
+    ensures { λ _. ⌜ now (buffer .exit) ≡ withCode srb (now (buffer .entry)) code ⌝ }
+    ensures { λ r. ⌜ r ≡ returnCode srb (now (buffer .exit)) ⌝ }
 {
-    wire::write32(buffer, 20, code);
+    wire::write32(buffer, header::RETURN_CODE, code);
     code
 }
 
@@ -59,10 +58,10 @@ fn reply_at(level: Level, tables: &mut [u8], medium: &mut [u8], buffer: &mut [u8
     requires { ⌜ length (now tables) ≡ tablesSize ⌝ }
     requires { ⌜ (tablesOf (now tables) .«phy_count» ≤ 32) × (tablesOf (now tables) .«row_count» ≤ 64) ⌝ }
     requires { ⌜ length (now medium) ≡ mediumSize (tablesOf (now tables)) ⌝ }
-    requires { ⌜ 28 ≤ length (now buffer) ⌝ }
-    ensures { λ _. ⌜ outcome 0 (stateWith level (tablesOf (now (tables .exit)))) (now (medium .exit)) (now (buffer .exit))
-        ≡ answeredAt (stateWith level (tablesOf (now (tables .entry)))) (now (medium .entry)) (now (buffer .entry)) ⌝ }
-    ensures { λ code. ⌜ code ≡ number (part (now (buffer .exit)) 20 4) ⌝ }
+    requires { ⌜ srb .size ≤ length (now buffer) ⌝ }
+    ensures { λ _. ⌜ outcome 0 (pointOf (stateWith level (tablesOf (now (tables .exit)))) (now (medium .exit))) (now (buffer .exit))
+        ≡ answeredAt (pointOf (stateWith level (tablesOf (now (tables .entry)))) (now (medium .entry))) (requestOf (now (buffer .entry))) ⌝ }
+    ensures { λ code. ⌜ code ≡ returnCode srb (now (buffer .exit)) ⌝ }
 {
     let code = check_and_serve(level, tables, medium, buffer);
     write_code(buffer, code)
@@ -73,10 +72,10 @@ pub fn reply(state: &mut [u8], medium: &mut [u8], buffer: &mut [u8]) -> u32
     requires { ⌜ length (now state) ≡ stateSize ⌝ }
     requires { ⌜ stateHolds (stateOf (now state)) ≡ true ⌝ }
     requires { ⌜ length (now medium) ≡ mediumSize (stateOf (now state) .adapter) ⌝ }
-    requires { ⌜ 28 ≤ length (now buffer) ⌝ }
-    ensures { λ _. ⌜ outcome 0 (stateOf (now (state .exit))) (now (medium .exit)) (now (buffer .exit))
-        ≡ answeredAt (stateOf (now (state .entry))) (now (medium .entry)) (now (buffer .entry)) ⌝ }
-    ensures { λ code. ⌜ code ≡ number (part (now (buffer .exit)) 20 4) ⌝ }
+    requires { ⌜ srb .size ≤ length (now buffer) ⌝ }
+    ensures { λ _. ⌜ outcome 0 (pointOf (stateOf (now (state .exit))) (now (medium .exit))) (now (buffer .exit))
+        ≡ answeredAt (pointOf (stateOf (now (state .entry))) (now (medium .entry))) (requestOf (now (buffer .entry))) ⌝ }
+    ensures { λ code. ⌜ code ≡ returnCode srb (now (buffer .exit)) ⌝ }
 {
     let level = Level(state[0]);
     reply_at(level, &mut state[1..], medium, buffer)
@@ -98,10 +97,10 @@ pub fn state_number(state: &[u8], medium: usize) -> u32
 
 // The buffer's length, where the number of the checks before it is 0.
 pub fn buffer_number(number: u32, buffer: usize) -> u32
-    ensures { λ r. ⌜ r ≡ bufferNumber number buffer ⌝ }
+    ensures { λ r. ⌜ r ≡ bufferNumber srb number buffer ⌝ }
 {
     if number == 0 {
-        if buffer < 28 {
+        if buffer < header::SIZE {
             return codes::SHORT_BUFFER;
         }
     }
@@ -110,15 +109,15 @@ pub fn buffer_number(number: u32, buffer: usize) -> u32
 
 fn call_number(state: &[u8], medium: usize, buffer: usize) -> u32
     requires { ⌜ length (now state) ≡ stateSize ⌝ }
-    ensures { λ r. ⌜ r ≡ callNumber (stateOf (now (state .entry))) medium buffer ⌝ }
+    ensures { λ r. ⌜ r ≡ bufferNumber srb (stateNumber (stateOf (now (state .entry))) medium) buffer ⌝ }
 {
     buffer_number(state_number(state, medium), buffer)
 }
 
 fn handle(state: &mut [u8], medium: &mut [u8], buffer: &mut [u8]) -> u32
     requires { ⌜ length (now state) ≡ stateSize ⌝ }
-    ensures { λ call. ⌜ outcome call (stateOf (now (state .exit))) (now (medium .exit)) (now (buffer .exit))
-        ≡ handled (stateOf (now (state .entry))) (now (medium .entry)) (now (buffer .entry)) ⌝ }
+    ensures { λ call. ⌜ outcome call (pointOf (stateOf (now (state .exit))) (now (medium .exit))) (now (buffer .exit))
+        ≡ handled (pointOf (stateOf (now (state .entry))) (now (medium .entry))) (requestOf (now (buffer .entry))) ⌝ }
 {
     let call = call_number(state, medium.len(), buffer.len());
     if call == 0 {

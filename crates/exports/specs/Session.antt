@@ -8,8 +8,8 @@ use lib.Dec.{eqb, leb}
 use lib.ListN.{length, take, drop}
 use Rattle.laws.specs.Splice.{part}
 use Rattle.wire.specs.Number.{number, bytes}
-use Rattle.state.specs.State.{State}
-use Rattle.dispatch.specs.Request.{Outcome, handled}
+use Rattle.header.specs.Form.{srb, returnCode}
+use Rattle.dispatch.specs.Request.{Request, requestOf, Point, Outcome, handled}
 use Rattle.claims.specs.Run.{Reply, Entry, End, replyOf, run, wholeRun}
 
 -- ---- the requests of a session
@@ -30,9 +30,9 @@ abbrev pub behindFirst : List ℕ → List ℕ
 behindFirst session = drop (4 + sizeOf session) session
 
 -- the requests of a session, at most so many
-unfoldable pub requestsOf : ℕ → List ℕ → List (List ℕ)
+unfoldable pub requestsOf : ℕ → List ℕ → List Request
 requestsOf zero session = []
-requestsOf (suc room) session = cond (wholeFirst session) (firstOf session ∷ requestsOf room (behindFirst session)) []
+requestsOf (suc room) session = cond (wholeFirst session) (requestOf (firstOf session) ∷ requestsOf room (behindFirst session)) []
 
 -- ---- what a run leaves, as bytes
 
@@ -41,9 +41,9 @@ unfoldable pub withReplies : List Entry → List ℕ → List ℕ
 withReplies [] session = session
 withReplies (e ∷ log) session = take 4 session ++ (e .exchange .reply .buffer ++ withReplies log (behindFirst session))
 
--- "the return code is bytes 20–23"; where the call gives a number none is written, and FFFFFFFFh stands for it
+-- the return code; where the call gives a number none is written, and FFFFFFFFh stands for it
 unfoldable pub codeOf : Reply → ℕ
-codeOf reply = cond (eqb (reply .call) 0) (number (part (reply .buffer) 20 4)) 4294967295
+codeOf reply = cond (eqb (reply .call) 0) (returnCode srb (reply .buffer)) 4294967295
 
 -- a request's call number and return code
 abbrev pub lineOf : Reply → List ℕ
@@ -66,15 +66,15 @@ ran count medium session lines = record { count = count; medium = medium; sessio
 -- a run's end, in a session and a record; what the record has past the requests stays
 unfoldable pub shown : End → List ℕ → List ℕ → Ran
 shown end session lines =
-    ran (length (end .log)) (end .medium) (withReplies (end .log) session) (linesOf (end .log) ++ drop (8 * length (end .log)) lines)
+    ran (length (end .log)) (end .point .store .medium) (withReplies (end .log) session) (linesOf (end .log) ++ drop (8 * length (end .log)) lines)
 
 -- "A run is an opening, then a list of requests": those of the session, as many as the record has room for. A line is 8 bytes
 unfoldable pub sessionRun : List ℕ → List ℕ → List ℕ → List ℕ → List ℕ → Ran
 sessionRun text file medium session lines = shown (wholeRun text file medium (requestsOf (length lines / 8) session)) session lines
 
--- the same from a state, with room for so many
-unfoldable pub ranFrom : ℕ → State → List ℕ → List ℕ → List ℕ → Ran
-ranFrom room s medium session lines = shown (run s medium (requestsOf room session)) session lines
+-- the same from a point, with room for so many
+unfoldable pub ranFrom : ℕ → Point → List ℕ → List ℕ → Ran
+ranFrom room p session lines = shown (run p (requestsOf room session)) session lines
 
 -- ---- one request of a session, for the contracts below the whole run
 
@@ -82,24 +82,23 @@ ranFrom room s medium session lines = shown (run s medium (requestsOf room sessi
 unfoldable pub endFrom : List ℕ → ℕ → ℕ
 endFrom session at = cond (wholeFirst (drop at session)) (at + (4 + sizeOf (drop at session))) at
 
--- what one request leaves: the state, the medium, the bytes that it stands in, and its line of the record
+-- what one request leaves: the state and the medium, the bytes that it stands in, and its line of the record
 pub record Left : Type 0 where
-  pub state : State
-  pub medium : List ℕ
+  pub point : Point
   pub bytes : List ℕ
   pub line : List ℕ
 
-abbrev pub left : State → List ℕ → List ℕ → List ℕ → Left
-left s medium bytes line = record { state = s; medium = medium; bytes = bytes; line = line }
+abbrev pub left : Point → List ℕ → List ℕ → Left
+left p bytes line = record { point = p; bytes = bytes; line = line }
 
 -- in a buffer of its own
 abbrev pub afterRequest : Outcome → Left
-afterRequest o = left (o .state) (o .medium) (o .buffer) (lineOf (replyOf o))
+afterRequest o = left (o .point) (o .buffer) (lineOf (replyOf o))
 
 -- behind the bytes of its length
 abbrev pub behindLength : List ℕ → Left → Left
-behindLength size l = left (l .state) (l .medium) (size ++ l .bytes) (l .line)
+behindLength size l = left (l .point) (size ++ l .bytes) (l .line)
 
 -- what a request with its length before it leaves
-unfoldable pub afterSized : State → List ℕ → List ℕ → Left
-afterSized s medium request = behindLength (take 4 request) (afterRequest (handled s medium (drop 4 request)))
+unfoldable pub afterSized : Point → List ℕ → Left
+afterSized p request = behindLength (take 4 request) (afterRequest (handled p (requestOf (drop 4 request))))

@@ -7,7 +7,8 @@ ghost use lib.ListN.{length};
 ghost use Rattle.wire.specs.Number.{bytes};
 ghost use Rattle.adapter.specs.Adapter.{mediumSize};
 ghost use Rattle.state.specs.State.{stateSize, stateOf, stateHolds};
-ghost use Rattle.dispatch.specs.Request.{stateNumber, answeredAt, handled};
+ghost use Rattle.header.specs.Form.{srb};
+ghost use Rattle.dispatch.specs.Request.{requestOf, pointOf, stateNumber, answeredAt, handled};
 ghost use Rattle.exports.specs.Session.{endFrom, left, afterRequest, afterSized, ran, ranFrom};
 
 // What a line of the record has where no return code was written.
@@ -44,10 +45,10 @@ fn reply(state: &mut [u8], medium: &mut [u8], buffer: &mut [u8], line: &mut [u8]
     requires { ⌜ length (now state) ≡ stateSize ⌝ }
     requires { ⌜ stateHolds (stateOf (now state)) ≡ true ⌝ }
     requires { ⌜ length (now medium) ≡ mediumSize (stateOf (now state) .adapter) ⌝ }
-    requires { ⌜ 28 ≤ length (now buffer) ⌝ }
+    requires { ⌜ srb .size ≤ length (now buffer) ⌝ }
     requires { ⌜ length (now line) ≡ 8 ⌝ }
-    ensures { λ _. ⌜ left (stateOf (now (state .exit))) (now (medium .exit)) (now (buffer .exit)) (now (line .exit))
-        ≡ afterRequest (answeredAt (stateOf (now (state .entry))) (now (medium .entry)) (now (buffer .entry))) ⌝ }
+    ensures { λ _. ⌜ left (pointOf (stateOf (now (state .exit))) (now (medium .exit))) (now (buffer .exit)) (now (line .exit))
+        ≡ afterRequest (answeredAt (pointOf (stateOf (now (state .entry))) (now (medium .entry))) (requestOf (now (buffer .entry)))) ⌝ }
 {
     let code = dispatch::reply(state, medium, buffer);
     write_line(line, 0, code);
@@ -58,8 +59,8 @@ fn handle(number: u32, state: &mut [u8], medium: &mut [u8], buffer: &mut [u8], l
     requires { ⌜ length (now state) ≡ stateSize ⌝ }
     requires { ⌜ number ≡ stateNumber (stateOf (now state)) (length (now medium)) ⌝ }
     requires { ⌜ length (now line) ≡ 8 ⌝ }
-    ensures { λ _. ⌜ left (stateOf (now (state .exit))) (now (medium .exit)) (now (buffer .exit)) (now (line .exit))
-        ≡ afterRequest (handled (stateOf (now (state .entry))) (now (medium .entry)) (now (buffer .entry))) ⌝ }
+    ensures { λ _. ⌜ left (pointOf (stateOf (now (state .exit))) (now (medium .exit))) (now (buffer .exit)) (now (line .exit))
+        ≡ afterRequest (handled (pointOf (stateOf (now (state .entry))) (now (medium .entry))) (requestOf (now (buffer .entry)))) ⌝ }
 {
     let call = dispatch::buffer_number(number, buffer.len());
     if call == 0 {
@@ -80,8 +81,8 @@ fn handle_sized(
     requires { ⌜ number ≡ stateNumber (stateOf (now state)) (length (now medium)) ⌝ }
     requires { ⌜ 4 ≤ length (now request) ⌝ }
     requires { ⌜ length (now line) ≡ 8 ⌝ }
-    ensures { λ _. ⌜ left (stateOf (now (state .exit))) (now (medium .exit)) (now (request .exit)) (now (line .exit))
-        ≡ afterSized (stateOf (now (state .entry))) (now (medium .entry)) (now (request .entry)) ⌝ }
+    ensures { λ _. ⌜ left (pointOf (stateOf (now (state .exit))) (now (medium .exit))) (now (request .exit)) (now (line .exit))
+        ≡ afterSized (pointOf (stateOf (now (state .entry))) (now (medium .entry))) (now (request .entry)) ⌝ }
 {
     handle(number, state, medium, &mut request[4..], line)
 }
@@ -91,7 +92,7 @@ fn handle_sized(
 pub fn run(state: &mut [u8], medium: &mut [u8], session: &mut [u8], lines: &mut [u8]) -> usize
     requires { ⌜ length (now state) ≡ stateSize ⌝ }
     ensures { λ r. ⌜ ran r (now (medium .exit)) (now (session .exit)) (now (lines .exit))
-        ≡ ranFrom (length (now (lines .entry)) / 8) (stateOf (now (state .entry))) (now (medium .entry)) (now (session .entry)) (now (lines .entry)) ⌝ }
+        ≡ ranFrom (length (now (lines .entry)) / 8) (pointOf (stateOf (now (state .entry))) (now (medium .entry))) (now (session .entry)) (now (lines .entry)) ⌝ }
 {
     let number = dispatch::state_number(state, medium.len());
     let mut at = 0;

@@ -4,12 +4,13 @@ use mathlib.Core.Bool.{Bool, cond, _&&_}
 use mathlib.Core.List.{List}
 use Prim.Native.Nat.{ℕ, _+_}
 use lib.Dec.{eqb, ltb, leb}
-use lib.ListN.{length, drop}
+use lib.ListN.{length}
 use Rattle.laws.specs.Splice.{part}
 use Rattle.codes.specs.Codes.{success, badControlCode, invalidParameter, writeAttempted}
 use Rattle.wire.specs.Number.{number}
 use Rattle.wire.specs.Same.{sameBytes}
 use Rattle.level.specs.declared.Level.{Level}
+use Rattle.header.specs.Form.{srb, behindHeader}
 use Rattle.header.specs.Table.{structureSize, dataSize, signedAll, csmiAll, csmiSas, need}
 
 -- ---- its fields
@@ -32,7 +33,7 @@ lengthField buffer = number (part buffer 24 4)
 
 -- what stands behind the header
 abbrev pub bodyOf : List ℕ → List ℕ
-bodyOf buffer = drop 28 buffer
+bodyOf buffer = behindHeader srb buffer
 
 -- ---- its checks
 
@@ -55,11 +56,15 @@ codeChecked code buffer =
 
 -- "HeaderLength 28", and then those
 unfoldable pub headerCode : List ℕ → ℕ
-headerCode buffer = cond (eqb (headerLength buffer) 28) (codeChecked (controlCode buffer) buffer) invalidParameter
+headerCode buffer = cond (eqb (headerLength buffer) (srb .size)) (codeChecked (controlCode buffer) buffer) invalidParameter
 
 -- "its need is above it"
 unfoldable pub above : Level → List ℕ → Bool
 above level buffer = ltb (level .0) (need (controlCode buffer) (bodyOf buffer) .0)
+
+-- "passes all before the level and its need is above it", of the header's checks
+unfoldable pub levelRefuses : Level → List ℕ → Bool
+levelRefuses level buffer = eqb (headerCode buffer) success && above level buffer
 
 -- "level": 4 where "its need is above it"; else what the checks before it gave
 unfoldable pub accessCode : Level → List ℕ → ℕ

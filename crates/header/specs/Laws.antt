@@ -1,19 +1,45 @@
 -- What the proofs of this crate and the layers above cite. Assumes nothing.
 use mathlib.Core.Path.{_≡_, refl, sym, _∙_}
 use mathlib.Core.Bool.{Bool, true, false, cond, _&&_}
-use mathlib.Core.List.{List}
+use mathlib.Core.List.{List, _++_}
 use Prim.Native.Nat.{ℕ, _+_, _-_, _<_, _≤_}
 use native.Mathlib.Nat.{le-trans}
 use native.Mathlib.Omega.{arith}
 use lib.Dec.{eqb, leb, ltb}
-use lib.ListN.{length, take, drop}
-use borrow.Author.Tests.{lt-leb, le-leb, leb-true, eqb-true}
-use Rattle.laws.specs.Choice.{by-bool, both-left, both-right, came-then, came-else}
-use Rattle.laws.specs.Splice.{rest}
+use lib.ListN.{length, take, drop, length-append}
+use lib.Seq.{length-take-le, drop-at}
+use borrow.Author.Tests.{lt-leb, le-leb, leb-true, le-ltb, ltb-false, eqb-true}
+use Rattle.laws.specs.Choice.{by-bool, both-left, both-right, came-then, came-else, either}
+use Rattle.laws.specs.Splice.{part, part-splice, drop-splice, rest}
 use Rattle.codes.specs.Codes.{stpPassthru, success, writeAttempted}
+use Rattle.wire.specs.Number.{bytes, length-bytes, number-bytes}
 use Rattle.level.specs.declared.Level.{Level}
+use Rattle.header.specs.Form.{Form, srb, behindHeader, returnCode, withCode}
 use Rattle.header.specs.Table.{structureSize, dataSize, need}
-use Rattle.header.specs.Header.{headerLength, controlCode, lengthField, bodyOf, signatureHolds, lengthHolds, codeChecked, headerCode, above, accessCode}
+use Rattle.header.specs.Header.{headerLength, controlCode, lengthField, bodyOf, signatureHolds, lengthHolds, codeChecked, headerCode, above, levelRefuses, accessCode}
+
+-- ---- a header of any form, with the return code inside it
+
+module _ (f : Form) (h : f .place + 4 ≤ f .size) where
+  -- the return code that was written stands there
+  pub code-shown : (buffer : List ℕ) (code : ℕ) → f .size ≤ length buffer → code < 4294967296 → returnCode f (withCode f buffer code) ≡ code
+  code-shown buffer code l k =
+      let p : part (withCode f buffer code) (f .place) 4 ≡ bytes 4 code = rw (length-bytes 4 code) at (part-splice buffer (f .place) (bytes 4 code) (omega arith)) in
+      rw (p, number-bytes 4 code (omega arith)) refl
+
+  module _ (buffer body : List ℕ) (l : f .size ≤ length buffer) where
+    front : length (take (f .size) buffer) ≡ f .size
+    front = length-take-le (f .size) buffer l
+
+    -- a body put back behind its header
+    pub headed : f .size ≤ length (take (f .size) buffer ++ body)
+    headed = rw (length-append (take (f .size) buffer) body, front) (omega arith)
+
+    -- it stays where the return code is written
+    pub body-shown : (code : ℕ) → behindHeader f (withCode f (take (f .size) buffer ++ body) code) ≡ body
+    body-shown code =
+        drop-splice (take (f .size) buffer ++ body) (f .place) (bytes 4 code) (f .size) (omega (arith, headed)) (rw length-bytes h)
+        ∙ drop-at (take (f .size) buffer) body (f .size) front
 
 -- a code 25 whose structure is there has its fixed part
 pub passthrough-room : (control k n : ℕ) → control ≡ stpPassthru → structureSize control ≤ n → k ≤ 136 → k ≤ n
@@ -96,3 +122,41 @@ access-header level buffer h =
 pub access-room : (level : Level) (buffer : List ℕ) (code : ℕ) → code ≡ accessCode level buffer → code ≡ 0
     → structureSize (controlCode buffer) + dataSize (controlCode buffer) (bodyOf buffer) ≤ length (bodyOf buffer)
 access-room level buffer code e z = header-room buffer (access-header level buffer (sym e ∙ z))
+
+-- ---- the level
+
+-- a code of the checks up to the level is small
+pub access-small : (level : Level) (buffer : List ℕ) → accessCode level buffer ≤ 4
+unfolding accessCode headerCode codeChecked
+access-small level buffer =
+    either Small (eqb (headerCode buffer) success) (either Small (above level buffer) (omega arith) (omega arith))
+    (either Small (eqb (headerLength buffer) (srb .size))
+    (either Small (eqb (structureSize (controlCode buffer)) 0) (omega arith)
+    (either Small (signatureHolds (controlCode buffer) buffer)
+    (either Small (lengthHolds (controlCode buffer) (lengthField buffer) (bodyOf buffer)) (omega arith) (omega arith)) (omega arith)))
+    (omega arith))
+  where
+    Small : ℕ → Type 0
+    Small n = n ≤ 4
+
+-- a request that the level refuses is answered 4
+pub access-refused : (level : Level) (buffer : List ℕ) → levelRefuses level buffer ≡ true → accessCode level buffer ≡ writeAttempted
+unfolding levelRefuses accessCode
+access-refused level buffer h =
+    rw (both-left (eqb (headerCode buffer) success) (above level buffer) h, both-right (eqb (headerCode buffer) success) (above level buffer) h) refl
+
+module _ (l m : Level) (buffer : List ℕ) (h : l .0 ≤ m .0) where
+  above-higher : above l buffer ≡ false → above m buffer ≡ false
+  unfolding above
+  above-higher a =
+      let n : need (controlCode buffer) (bodyOf buffer) .0 ≤ l .0 = ltb-false (l .0) (need (controlCode buffer) (bodyOf buffer) .0) a in
+      le-ltb (m .0) (need (controlCode buffer) (bodyOf buffer) .0) (omega arith)
+
+  -- one that it does not refuse is answered the same at a higher level
+  pub access-higher : levelRefuses l buffer ≡ false → accessCode l buffer ≡ accessCode m buffer
+  unfolding levelRefuses accessCode
+  access-higher a =
+      by-bool
+      (λ (t : Bool). t && above l buffer ≡ false
+      → cond t (cond (above l buffer) writeAttempted success) (headerCode buffer) ≡ cond t (cond (above m buffer) writeAttempted success) (headerCode buffer))
+      (λ f. rw (f, above-higher f) refl) (λ _. refl) (eqb (headerCode buffer) success) a

@@ -8,19 +8,25 @@ ghost use mathlib.Core.Path.{_≡_};
 ghost use Prim.Native.Nat.{_+_, _≤_};
 ghost use lib.Dec.{eqb, leb};
 ghost use lib.ListN.{length};
+ghost use Rattle.header.specs.Form.{srb};
 ghost use Rattle.header.specs.Table.{structureSize, dataSize};
 ghost use Rattle.header.specs.Header.{headerLength, controlCode, lengthField, bodyOf, signatureHolds, lengthHolds, codeChecked, headerCode, above, accessCode};
 
+// The bytes of a header, and the place of its return code.
+pub const SIZE: usize = 28;
+
+pub const RETURN_CODE: usize = 20;
+
 // The control code of a request.
 pub fn control_code(buffer: &[u8]) -> u32
-    requires { ⌜ 28 ≤ length (now buffer) ⌝ }
+    requires { ⌜ srb .size ≤ length (now buffer) ⌝ }
     ensures { λ r. ⌜ r ≡ controlCode (now (buffer .entry)) ⌝ }
 {
     wire::read32(buffer, 16)
 }
 
 fn header_length(buffer: &[u8]) -> u32
-    requires { ⌜ 28 ≤ length (now buffer) ⌝ }
+    requires { ⌜ srb .size ≤ length (now buffer) ⌝ }
     ensures { λ r. ⌜ r ≡ headerLength (now (buffer .entry)) ⌝ }
 {
     wire::read32(buffer, 0)
@@ -64,10 +70,10 @@ fn length_holds(control: u32, n: u32, body: &[u8]) -> bool
 }
 
 fn body_length_holds(control: u32, buffer: &[u8]) -> bool
-    requires { ⌜ 28 ≤ length (now buffer) ⌝ }
+    requires { ⌜ srb .size ≤ length (now buffer) ⌝ }
     ensures { λ r. ⌜ r ≡ lengthHolds control (lengthField (now (buffer .entry))) (bodyOf (now (buffer .entry))) ⌝ }
 {
-    length_holds(control, wire::read32(buffer, 24), &buffer[28..])
+    length_holds(control, wire::read32(buffer, 24), &buffer[SIZE..])
 }
 
 fn is_unknown(control: u32) -> bool
@@ -77,7 +83,7 @@ fn is_unknown(control: u32) -> bool
 }
 
 fn check_code(control: u32, buffer: &[u8]) -> u32
-    requires { ⌜ 28 ≤ length (now buffer) ⌝ }
+    requires { ⌜ srb .size ≤ length (now buffer) ⌝ }
     ensures { λ r. ⌜ r ≡ codeChecked control (now (buffer .entry)) ⌝ }
 {
     if is_unknown(control) {
@@ -93,7 +99,7 @@ fn check_code(control: u32, buffer: &[u8]) -> u32
 }
 
 fn check_control(buffer: &[u8]) -> u32
-    requires { ⌜ 28 ≤ length (now buffer) ⌝ }
+    requires { ⌜ srb .size ≤ length (now buffer) ⌝ }
     ensures { λ r. ⌜ r ≡ codeChecked (controlCode (now (buffer .entry))) (now (buffer .entry)) ⌝ }
 {
     check_code(control_code(buffer), buffer)
@@ -101,7 +107,7 @@ fn check_control(buffer: &[u8]) -> u32
 
 // Of the checks before the level, the return code of the first that fails, or 0.
 fn header_code(buffer: &[u8]) -> u32
-    requires { ⌜ 28 ≤ length (now buffer) ⌝ }
+    requires { ⌜ srb .size ≤ length (now buffer) ⌝ }
     ensures { λ r. ⌜ r ≡ headerCode (now (buffer .entry)) ⌝ }
 {
     if header_length(buffer) == 28 {
@@ -111,16 +117,16 @@ fn header_code(buffer: &[u8]) -> u32
 }
 
 fn is_above(level: Level, buffer: &[u8]) -> bool
-    requires { ⌜ 28 ≤ length (now buffer) ⌝ }
+    requires { ⌜ srb .size ≤ length (now buffer) ⌝ }
     requires { ⌜ structureSize (controlCode (now buffer)) ≤ length (bodyOf (now buffer)) ⌝ }
     ensures { λ r. ⌜ r ≡ above level (now (buffer .entry)) ⌝ }
 {
-    let need = need(control_code(buffer), &buffer[28..]);
+    let need = need(control_code(buffer), &buffer[SIZE..]);
     level.0 < need.0
 }
 
 fn access(level: Level, code: u32, buffer: &[u8]) -> u32
-    requires { ⌜ 28 ≤ length (now buffer) ⌝ }
+    requires { ⌜ srb .size ≤ length (now buffer) ⌝ }
     requires { ⌜ code ≡ headerCode (now buffer) ⌝ }
     ensures { λ r. ⌜ r ≡ accessCode level (now (buffer .entry)) ⌝ }
 {
@@ -135,7 +141,7 @@ fn access(level: Level, code: u32, buffer: &[u8]) -> u32
 
 // Of the checks up to the level, the return code of the first that fails, or 0.
 pub fn access_code(level: Level, buffer: &[u8]) -> u32
-    requires { ⌜ 28 ≤ length (now buffer) ⌝ }
+    requires { ⌜ srb .size ≤ length (now buffer) ⌝ }
     ensures { λ r. ⌜ r ≡ accessCode level (now (buffer .entry)) ⌝ }
 {
     access(level, header_code(buffer), buffer)

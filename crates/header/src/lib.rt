@@ -2,5 +2,7 @@
 mod checks;
 mod table;
 
+pub use checks::RETURN_CODE;
+pub use checks::SIZE;
 pub use checks::access_code;
 pub use checks::control_code;

@@ -10,3 +10,4 @@ pub mod Clear
 pub mod Flat
 pub mod Cases
 pub mod Ascii
+pub mod Runs

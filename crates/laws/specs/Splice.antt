@@ -85,7 +85,7 @@ module _ {A : Type 0} where
       List·getD-append (take at d) (s ++ drop (at + length s) d) z i (rw (length-take-le at d h) k) ∙ getD-take at d i z k
 
   -- what stands behind a splice
-  drop-splice : (d : List A) (at : ℕ) (s : List A) (i : ℕ) → at ≤ length d → at + length s ≤ i → drop i (splice d at s) ≡ drop i d
+  pub drop-splice : (d : List A) (at : ℕ) (s : List A) (i : ℕ) → at ≤ length d → at + length s ≤ i → drop i (splice d at s) ≡ drop i d
   unfolding splice
   drop-splice d at s i h k =
       let e : length (take at d ++ s) ≡ at + length s = length-append (take at d) s ∙ rw (length-take-le at d h) in

@@ -1,18 +1,33 @@
--- The starred links of document 01 ("Starred cases"), by computation on the definitions. Assumes nothing.
+-- The starred links of document 01 ("Starred cases"), by computation on the definitions. Each is the rule of a phy. Assumes nothing.
 use mathlib.Core.Path.{refl}
-use mathlib.Core.Bool.{false}
-use mathlib.Core.List.{List, [], _∷_}
-use Prim.Native.Nat.{ℕ}
+use mathlib.Core.List.{List, [], _∷_, _++_}
+use Prim.Native.Nat.{ℕ, _+_, _*_}
+use lib.ListN.{replicate}
 use Rattle.laws.specs.Cases.{Case, Holds, All}
-use Rattle.link.specs.Rule.{inBoth, ratesRule}
+use Rattle.phy.specs.declared.Phy.{Phy}
+use Rattle.phy.specs.Entity.{attachedType, noDevice, programmedMinimum, programmedMaximum}
+use Rattle.link.specs.Rule.{inBoth, ratesRule, ruleOf}
+
+-- a phy with an end device attached: its programmed range, within hardware that has both rates, and the device's range
+abbrev pub phyWith : ℕ → ℕ → ℕ → ℕ → Phy
+phyWith minimum maximum lowest highest =
+    record {
+      entity = replicate 30 0 ++ ((16 * minimum + 8) ∷ (16 * maximum + 9) ∷ 0 ∷ 0 ∷ 0 ∷ 0 ∷ 0x10 ∷ replicate 27 0);
+      counters = replicate 4 0;
+      signature = replicate 20 0;
+      held = 0;
+      fixed = 0;
+      lowest = lowest;
+      highest = highest;
+    }
 
 -- a programmed range and a device's, with the rate
-abbrev pub link : ℕ → ℕ → ℕ → ℕ → ℕ → Case
-link minimum maximum lowest highest rate = record { gives = ratesRule false minimum maximum lowest highest ∷ []; said = rate ∷ [] }
+abbrev pub linkCase : ℕ → ℕ → ℕ → ℕ → ℕ → Case
+linkCase minimum maximum lowest highest rate = record { gives = ruleOf (phyWith minimum maximum lowest highest) ∷ []; said = rate ∷ [] }
 
 abbrev pub cases : List Case
-cases = link 8 8 9 9 2 ∷ link 8 9 8 9 9 ∷ []
+cases = linkCase 8 8 9 9 2 ∷ linkCase 8 9 8 9 9 ∷ []
 
 pub starred : All Holds cases
-unfolding ratesRule inBoth
+unfolding ruleOf ratesRule inBoth noDevice attachedType programmedMinimum programmedMaximum
 starred = (refl, (refl, tt))

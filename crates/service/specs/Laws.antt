@@ -10,7 +10,7 @@ use Rattle.adapter.specs.Adapter.{Adapter}
 use Rattle.adapter.specs.Changed.{Changed, leaves}
 use Rattle.reports.specs.Report.{Report, report}
 use Rattle.passthrough.specs.Passthrough.{Passed, leaves as passes}
-use Rattle.service.specs.Serve.{serves, changed, reported, passed}
+use Rattle.service.specs.Serve.{Store, withMedium, serves, changed, reported, passed}
 
 -- ---- rooms
 
@@ -32,12 +32,13 @@ passthrough-lent control n body e h = rw e at h
 -- ---- what a call left
 
 -- where it sees no disk
-pub changed-by : (code : ℕ) (ad : Adapter) (medium body : List ℕ) (x : Changed) → leaves code ad body ≡ x → serves code ad medium body ≡ changed medium x
-changed-by code ad medium body x e = ap (changed medium) e
+pub changed-by : (code : ℕ) (ad : Adapter) (store : Store) (body : List ℕ) (x : Changed) → leaves code ad body ≡ x → serves code ad store body ≡ changed store x
+changed-by code ad store body x e = ap (changed store) e
 
 -- where it changes no table
-pub reported-by : (code : ℕ) (ad : Adapter) (medium body : List ℕ) (r : Report) → report code body ≡ r → serves code ad medium body ≡ changed medium (reported ad r)
-reported-by code ad medium body r e = ap (λ (x : Report). changed medium (reported ad x)) e
+pub reported-by : (code : ℕ) (ad : Adapter) (store : Store) (body : List ℕ) (r : Report) → report code body ≡ r → serves code ad store body ≡ changed store (reported ad r)
+reported-by code ad store body r e = ap (λ (x : Report). changed store (reported ad x)) e
 
-pub passed-by : (code : ℕ) (ad : Adapter) (medium body : List ℕ) (p : Passed) → passes code medium body ≡ p → serves code ad medium body ≡ passed ad p
-passed-by code ad medium body p e = ap (passed ad) e
+pub passed-by : (code : ℕ) (ad : Adapter) (store : Store) (medium body : List ℕ) (p : Passed) → passes code medium body ≡ p
+    → serves code ad (withMedium store medium) body ≡ passed ad store p
+passed-by code ad store medium body p e = ap (passed ad store) e

@@ -17,28 +17,39 @@ use Rattle.set_phy_info.specs.SetPhyInfo.{setPhyInfo as setInfo}
 use Rattle.link_errors.specs.LinkErrors.{linkErrors}
 use Rattle.passthrough.specs.Passthrough.{Passed, passthrough}
 
--- the return code, the tables and counters, the disks and the body that a request leaves
+-- what is lent beside the state and written: "the medium", all disks
+pub record Store : Type 0 where
+  pub medium : List ℕ
+
+abbrev pub storeOf : List ℕ → Store
+storeOf medium = record { medium = medium }
+
+-- the same with other disks
+abbrev pub withMedium : Store → List ℕ → Store
+withMedium store medium = record { medium = medium }
+
+-- the return code, the tables and counters, what is stored beside them and the body that a request leaves
 pub record Served : Type 0 where
   pub code : ℕ
   pub adapter : Adapter
-  pub medium : List ℕ
+  pub store : Store
   pub body : List ℕ
 
 -- the four together
-abbrev pub serves : ℕ → Adapter → List ℕ → List ℕ → Served
-serves code ad medium body = record { code = code; adapter = ad; medium = medium; body = body }
+abbrev pub serves : ℕ → Adapter → Store → List ℕ → Served
+serves code ad store body = record { code = code; adapter = ad; store = store; body = body }
 
 -- a request that only reports changes no table
 abbrev pub reported : Adapter → Report → Changed
 reported ad r = record { code = r .code; adapter = ad; body = r .body }
 
 -- one that sees no disk
-abbrev pub changed : List ℕ → Changed → Served
-changed medium c = serves (c .code) (c .adapter) medium (c .body)
+abbrev pub changed : Store → Changed → Served
+changed store c = serves (c .code) (c .adapter) store (c .body)
 
 -- one that changes no table
-abbrev pub passed : Adapter → Passed → Served
-passed ad p = serves (p .code) ad (p .medium) (p .body)
+abbrev pub passed : Adapter → Store → Passed → Served
+passed ad store p = serves (p .code) ad (withMedium store (p .medium)) (p .body)
 
 -- codes 1, 20, 26, 27 and 28; no other comes here: `served` takes 21, 22 and 25 before, and the header's checks refuse the rest
 unfoldable pub reportOf : Adapter → ℕ → List ℕ → Report
@@ -51,9 +62,9 @@ reportOf ad control body =
     (report badControlCode body)))))
 
 -- every code
-unfoldable pub served : Adapter → List ℕ → ℕ → List ℕ → Served
-served ad medium control body =
-    cond (eqb control setPhyInfo) (changed medium (setInfo ad body))
-    (cond (eqb control getLinkErrors) (changed medium (linkErrors ad body))
-    (cond (eqb control stpPassthru) (passed ad (passthrough ad medium body))
-    (changed medium (reported ad (reportOf ad control body)))))
+unfoldable pub served : Adapter → Store → ℕ → List ℕ → Served
+served ad store control body =
+    cond (eqb control setPhyInfo) (changed store (setInfo ad body))
+    (cond (eqb control getLinkErrors) (changed store (linkErrors ad body))
+    (cond (eqb control stpPassthru) (passed ad store (passthrough ad (store .medium) body))
+    (changed store (reported ad (reportOf ad control body)))))

@@ -6,7 +6,7 @@ ghost use Rattle.adapter.specs.Adapter.{mediumSize};
 ghost use Rattle.tables.specs.Tables.{tablesSize, tablesOf};
 ghost use Rattle.reports.specs.Report.{report};
 ghost use Rattle.header.specs.Table.{structureSize, dataSize};
-ghost use Rattle.service.specs.Serve.{serves, reportOf, served};
+ghost use Rattle.service.specs.Serve.{storeOf, serves, reportOf, served};
 
 fn report(tables: &[u8], control: u32, body: &mut [u8]) -> u32
     requires { ⌜ length (now tables) ≡ tablesSize ⌝ }
@@ -39,7 +39,8 @@ pub fn serve(tables: &mut [u8], medium: &mut [u8], control: u32, body: &mut [u8]
     requires { ⌜ (tablesOf (now tables) .«phy_count» ≤ 32) × (tablesOf (now tables) .«row_count» ≤ 64) ⌝ }
     requires { ⌜ length (now medium) ≡ mediumSize (tablesOf (now tables)) ⌝ }
     requires { ⌜ structureSize control + dataSize control (now body) ≤ length (now body) ⌝ }
-    ensures { λ code. ⌜ serves code (tablesOf (now (tables .exit))) (now (medium .exit)) (now (body .exit)) ≡ served (tablesOf (now (tables .entry))) (now (medium .entry)) control (now (body .entry)) ⌝ }
+    ensures { λ code. ⌜ serves code (tablesOf (now (tables .exit))) (storeOf (now (medium .exit))) (now (body .exit))
+        ≡ served (tablesOf (now (tables .entry))) (storeOf (now (medium .entry))) control (now (body .entry)) ⌝ }
 {
     if control == codes::SET_PHY_INFO {
         return set_phy_info::set_info(tables, body);

@@ -3,7 +3,7 @@ use mathlib.Core.Path.{_≡_}
 use Prim.Native.Nat.{_-_, _*_, _≤_}
 use lib.ListN.{length, take, drop}
 use Rattle.state.specs.State.{stateSize, stateOf}
-use Rattle.dispatch.specs.Request.{stateNumber}
+use Rattle.dispatch.specs.Request.{pointOf, stateNumber}
 use Rattle.exports.specs.Session.{ranFrom}
 use Rattle.exports.specs.Laws.{behind, line-lent, request-there, number-next, run-starts, run-ends, run-full, run-goes-on}
 use borrow.Author.Needs.{needs}
@@ -18,7 +18,8 @@ Inv-loop state₀ medium₀ session₀ lines₀ number at₀ count₀ room state
     × (length medium ≡ length medium₀)
     × (length session ≡ length session₀)
     × (length lines ≡ length lines₀)
-    × (ranFrom room (stateOf state₀) medium₀ session₀ lines₀ ≡ behind count (take at session) (take (8 * count) lines) (ranFrom (room - count) (stateOf state) medium (drop at session) (drop (8 * count) lines)))
+    × (ranFrom room (pointOf (stateOf state₀) medium₀) session₀ lines₀
+    ≡ behind count (take at session) (take (8 * count) lines) (ranFrom (room - count) (pointOf (stateOf state) medium) (drop at session) (drop (8 * count) lines)))
     × (number ≡ stateNumber (stateOf state) (length medium))
 
 abbrev μ-loop : tie.MeasureT-loop
@@ -50,6 +51,6 @@ run-spec =
       search (i, m .medium .given, needs),
       search (i, s .session .given, needs),
       search (i, l .lines .given, needs),
-      run-goes-on _ _ _ _ _ _ _ _ (i .7) _ (f .end-from .ensures .0) (e .if1 .left) (f .end-from .ensures .1 .1) (i .1) w _ _ _ _ (h .handle-sized .ensures) (s .session .given .0),
+      run-goes-on _ _ _ _ _ _ _ _ (i .7) _ (f .end-from .ensures .0) (e .if1 .left) (f .end-from .ensures .1 .1) (i .1) w _ _ _ (h .handle-sized .ensures) (s .session .given .0),
       number-next _ _ _ _ _ _ _ _ (h .handle-sized .ensures) (i .3) (i .8),
     )) (λ c. search needs) (λ c. search needs) (λ c. search needs) (λ c. search needs) (λ c. search (run-full, needs)))
