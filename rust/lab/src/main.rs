@@ -17,6 +17,9 @@ mod run;
 mod state;
 mod verdict;
 
+#[cfg(test)]
+mod tests;
+
 use exercise::Exercise;
 use marking::Marking;
 use options::{Form, Options};

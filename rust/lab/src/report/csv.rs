@@ -1,4 +1,5 @@
-//! The report as CSV: a line for each request, each value left differently, each warning, and the mark.
+//! The report as CSV: a line for each request, each value left differently, the numbers of denied requests, each warning, and the
+//! mark.
 
 use super::escape::csv as cell;
 use super::{group, verdict};
@@ -25,6 +26,12 @@ pub fn csv(marking: &Marking) -> String {
             let ends = ["yes".to_string(), String::new()];
             out.push_str(&line(first.into_iter().chain(values).chain(ends)));
         }
+    }
+    if marking.no_mark.is_none() {
+        let first = ["denied", "", "requests denied"].map(String::from);
+        let counts = (0..marking.runs.len()).map(|i| marking.denied(i).to_string());
+        let ends = [String::new(), String::new()];
+        out.push_str(&line(first.into_iter().chain(counts).chain(ends)));
     }
     for (kind, words) in notes(marking) {
         let blank = std::iter::repeat_n(String::new(), marking.runs.len() + 2);
