@@ -37,6 +37,9 @@ impl Exercise {
         if !folder.is_dir() {
             return Err(format!("'{}' is not a folder", folder.display()));
         }
+        // a folder that may not be entered would look as if its files were missing
+        fs::metadata(folder.join("."))
+            .map_err(|error| format!("{} cannot be entered: {error}", folder.display()))?;
         let texts = match options.levels {
             true => LEVELS.map(all_levels).into(),
             false => vec![text(folder, "low")?, text(folder, "high")?],

@@ -1,5 +1,5 @@
 //! The lab's command: reads an exercise, runs it through the proved library, and shows both runs with their mark. The front
-//! `lab` in the repository's root builds this program and calls it with the shipped sample's folder as its first word.
+//! `lab` in the repository's root builds this program and names the shipped sample to it.
 //!
 //! Exit status: 0 no difference, 1 differences, 2 no mark. What stops it before there is anything to show is one line on
 //! standard error, with status 2.
@@ -33,7 +33,8 @@ const NO_MARK: u8 = 2;
 
 fn main() -> ExitCode {
     let status = work().unwrap_or_else(|reason| {
-        eprintln!("lab: {reason}");
+        // there is nowhere to say that standard error takes nothing
+        let _ = writeln!(std::io::stderr(), "lab: {reason}");
         NO_MARK
     });
     ExitCode::from(status)

@@ -3,14 +3,15 @@
 use std::ffi::OsString;
 use std::path::PathBuf;
 
-#[derive(Debug, Clone, Copy, PartialEq, Eq)]
+#[derive(Debug, Default, Clone, Copy, PartialEq, Eq)]
 pub enum Form {
+    #[default]
     Text,
     Csv,
     Json,
 }
 
-#[derive(Debug, PartialEq, Eq)]
+#[derive(Debug, Default, PartialEq, Eq)]
 pub struct Options {
     pub help: bool,
     /// All four levels in place of the two texts.
@@ -19,28 +20,18 @@ pub struct Options {
     pub html: Option<PathBuf>,
     pub disks: Option<PathBuf>,
     pub replies: Option<PathBuf>,
+    /// The shipped sample, which the front `lab` names; it runs where the user names no folder.
+    pub sample: Option<PathBuf>,
     /// The exercise's folder, and the name that it is shown under.
     pub folder: PathBuf,
     pub name: String,
 }
 
 impl Options {
-    /// Reads the words behind the program's name: the shipped sample's folder, then what the user typed.
+    /// Reads the words behind the program's name.
     pub fn parse(words: impl IntoIterator<Item = OsString>) -> Result<Options, String> {
         let mut words = words.into_iter();
-        let sample = words
-            .next()
-            .ok_or("the shipped sample is not named; use ./lab")?;
-        let mut options = Options {
-            help: false,
-            levels: false,
-            form: Form::Text,
-            html: None,
-            disks: None,
-            replies: None,
-            folder: PathBuf::from(sample),
-            name: "samples/writes, the shipped sample".to_string(),
-        };
+        let mut options = Options::default();
         let mut folders = Vec::new();
         while let Some(word) = words.next() {
             let text = word.to_string_lossy().into_owned();
@@ -52,7 +43,7 @@ impl Options {
                 folders.push(word);
             }
         }
-        options.take_folder(&folders)?;
+        options.take_folder(folders)?;
         Ok(options)
     }
 
@@ -92,6 +83,7 @@ impl Options {
             "--html" => &mut self.html,
             "--disks" => &mut self.disks,
             "--replies" => &mut self.replies,
+            "--sample" => &mut self.sample,
             _ => {
                 return Err(format!(
                     "no such option '{text}'; './lab --help' lists them"
@@ -113,19 +105,26 @@ impl Options {
         Ok(())
     }
 
-    fn take_folder(&mut self, folders: &[OsString]) -> Result<(), String> {
-        match folders {
-            [] => Ok(()),
-            [folder] => {
-                self.folder = PathBuf::from(folder);
-                self.name = folder.to_string_lossy().into_owned();
-                Ok(())
-            }
-            _ => Err(format!(
-                "{} folders; one exercise at a time, './lab --help' says how",
-                folders.len()
-            )),
+    fn take_folder(&mut self, mut folders: Vec<OsString>) -> Result<(), String> {
+        if folders.len() > 1 {
+            let count = folders.len();
+            return Err(format!(
+                "{count} folders; one exercise at a time, './lab --help' says how"
+            ));
         }
+        match (folders.pop(), self.sample.take()) {
+            (Some(folder), _) => {
+                self.name = folder.to_string_lossy().into_owned();
+                self.folder = PathBuf::from(folder);
+            }
+            (None, Some(sample)) => {
+                self.name = "samples/writes, the shipped sample".to_string();
+                self.folder = sample;
+            }
+            (None, None) if self.help => {}
+            (None, None) => return Err("no folder is named; './lab --help' says how".to_string()),
+        }
+        Ok(())
     }
 }
 
@@ -144,19 +143,18 @@ mod tests {
     use super::*;
 
     fn parsed(words: &str) -> Result<Options, String> {
-        Options::parse(
-            format!("/sample {words}")
-                .split_whitespace()
-                .map(OsString::from),
-        )
+        Options::parse(words.split_whitespace().map(OsString::from))
     }
 
     #[test]
     fn the_sample_or_a_folder() {
-        let options = parsed("").unwrap();
-        assert_eq!(options.folder, PathBuf::from("/sample"));
-        let options = parsed("--levels --json -- -x").unwrap();
-        assert_eq!((options.levels, options.form), (true, Form::Json));
+        let options = parsed("--sample /s --levels").unwrap();
+        assert_eq!(
+            (options.folder, options.levels),
+            (PathBuf::from("/s"), true)
+        );
+        let options = parsed("--sample /s --json -- -x").unwrap();
+        assert_eq!(options.form, Form::Json);
         assert_eq!(
             (options.folder, options.name),
             (PathBuf::from("-x"), "-x".to_string())
@@ -178,6 +176,7 @@ mod tests {
                 "--fast",
                 "no such option '--fast'; './lab --help' lists them",
             ),
+            ("", "no folder is named; './lab --help' says how"),
             ("--html", "--html needs a name behind it"),
             ("--html --csv", "--html needs a name behind it"),
             ("--html=", "--html needs a name behind it"),

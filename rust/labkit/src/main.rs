@@ -26,7 +26,7 @@ fn main() -> ExitCode {
         .map(|word| word.into_string().ok())
         .collect();
     let Some(words) = words else {
-        eprintln!("labkit: a file's name is not UTF-8; give it another");
+        say("a file's name is not UTF-8; give it another");
         return ExitCode::from(2);
     };
     let words: Vec<&str> = words.iter().map(String::as_str).collect();
@@ -41,17 +41,22 @@ fn main() -> ExitCode {
         ["reply", requests, replies, number] => show_numbered(requests, replies, number),
         ["help" | "--help" | "-h"] => write("-", USAGE.as_bytes()),
         _ => {
-            eprintln!("labkit: no such command; 'labkit help' lists them");
+            say("no such command; 'labkit help' lists them");
             return ExitCode::from(2);
         }
     };
     match done {
         Ok(()) => ExitCode::SUCCESS,
         Err(reason) => {
-            eprintln!("labkit: {reason}");
+            say(&reason);
             ExitCode::FAILURE
         }
     }
+}
+
+/// A line on standard error, if that takes it.
+fn say(line: &str) {
+    let _ = writeln!(std::io::stderr(), "labkit: {line}");
 }
 
 /// Makes an adapter file of at most so many phys, and warns of what makes real consoles behave oddly.
@@ -64,7 +69,7 @@ fn make_adapter(from: &str, to: &str, most: usize) -> Result<(), String> {
         ));
     }
     for line in adapter::warnings(&file, |_| false) {
-        eprintln!("labkit: warning: {from}: {line}");
+        say(&format!("warning: {from}: {line}"));
     }
     write(to, &file)
 }

@@ -4,8 +4,7 @@ tree="$work/a tree"
 tools=$work/tools
 mkdir -p "$tree/target" "$tools"
 cp -r lab crates crates.txt samples include "$tree/"
-(cd rust && find . -path ./target -prune -o -type f -print | cpio -pdm --quiet "$tree/rust") 2>/dev/null ||
-    { mkdir -p "$tree/rust" && (cd rust && tar cf - --exclude=./target .) | (cd "$tree/rust" && tar xf -); }
+mkdir "$tree/rust" && tar -C rust -cf - --exclude=./target . | tar -C "$tree/rust" -xf -
 cat >"$tools/rt" <<END
 #!/bin/sh
 echo "\$@" >>"$work/proved"

@@ -105,3 +105,13 @@ else
     echo "there is no 'script': progress on a terminal is not tested"
 fi
 rm -r "$dir"
+
+# The exercise that docs/LAB.md writes by hand has the mark that stands there.
+by_hand() {
+    local folder=$work/hand
+    mkdir "$folder" && ln -s "$lab" "$folder/lab"
+    awk '/^    mkdir mine$/ { on = 1 } on { print substr($0, 5) } /^    \.\/lab mine$/ { on = 0 }' docs/LAB.md >"$folder/commands"
+    (cd "$folder" && bash commands >printed)
+    [ $? -eq 1 ] && grep -qxF "    $(tail -n 1 "$folder/printed")" docs/LAB.md
+}
+try "the exercise in docs/LAB.md" by_hand

@@ -86,11 +86,16 @@ unreadable() {
     chmod 000 "$1/session.txt"
     refuses 2 "lab: $1/session.txt cannot be read: Permission denied (os error 13)" as_user "$lab" "$1"
 }
+no_entry() {
+    chmod 600 "$1"
+    refuses 2 "lab: $1 cannot be entered: Permission denied (os error 13)" as_user "$lab" "$1"
+}
 chmod 755 "$work"
 if as_user test -x "$lab" -a -x "$work" 2>/dev/null; then
     try "a folder that cannot be written" read_only "$work/an exercise"
     try "a page into it" page_into "$work/an exercise"
     try "a file that cannot be read" unreadable "$(exercise unreadable)"
+    try "a folder that cannot be entered" no_entry "$(exercise no_entry)"
 else
     echo "another user cannot be tried: folders that cannot be written or read are not tested"
 fi
@@ -98,4 +103,16 @@ full() {
     "$lab" samples/good >/dev/full 2>"$work/errors"
     [ $? -eq 2 ] && diff <(echo "lab: standard output: No space left on device (os error 28)") "$work/errors"
 }
-if [ -e /dev/full ]; then try "standard output that takes nothing" full; fi
+no_error() {
+    "$lab" nowhere 2>/dev/full
+    [ $? -eq 2 ]
+}
+if [ -e /dev/full ]; then
+    try "standard output that takes nothing" full
+    try "standard error that takes nothing" no_error
+fi
+a_reader_that_leaves() {
+    "$lab" samples/writes 2>"$work/errors" | head -n 1 >/dev/null
+    [ "${PIPESTATUS[0]}" -eq 1 ] && diff /dev/null "$work/errors"
+}
+try "a reader that has seen enough" a_reader_that_leaves
