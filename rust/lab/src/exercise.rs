@@ -1,10 +1,11 @@
-//! The files of an exercise, read whole. Where a description stands beside its binary the description is taken, so that an
-//! edited text is what runs. Every fault is one line that names the file.
+//! An exercise: an adapter, a session and level texts. Where a description stands beside its binary the description is taken, so
+//! that an edited text is what runs.
 
+use crate::files::{part, read, shown, Part};
 use crate::level;
 use crate::options::Options;
 use labkit::names::LEVELS;
-use labkit::{adapter, session, Fault};
+use labkit::{adapter, session};
 use std::fs;
 use std::path::Path;
 
@@ -15,13 +16,6 @@ pub struct Exercise {
     /// The level texts of the runs in order: the lower and the higher, or all four.
     pub texts: Vec<Text>,
     pub disks: Option<Part>,
-}
-
-/// Bytes, and where they come from.
-pub struct Part {
-    /// The name of the file, and what is to be said about it.
-    pub from: String,
-    pub bytes: Vec<u8>,
 }
 
 /// A run's name and its level text.
@@ -35,11 +29,11 @@ impl Exercise {
     pub fn read(options: &Options) -> Result<Exercise, String> {
         let folder = &options.folder;
         if !folder.is_dir() {
-            return Err(format!("'{}' is not a folder", folder.display()));
+            return Err(format!("'{}' is not a folder", shown(folder)));
         }
         // a folder that may not be entered would look as if its files were missing
         fs::metadata(folder.join("."))
-            .map_err(|error| format!("{} cannot be entered: {error}", folder.display()))?;
+            .map_err(|error| format!("{} cannot be entered: {error}", shown(folder)))?;
         let texts = match options.levels {
             true => LEVELS.map(all_levels).into(),
             false => vec![text(folder, "low")?, text(folder, "high")?],
@@ -61,6 +55,13 @@ impl Exercise {
         }
     }
 
+    /// What is to be said of its files.
+    pub fn warnings(&self) -> impl Iterator<Item = &String> {
+        [&self.adapter, &self.session]
+            .into_iter()
+            .filter_map(|part| part.warning.as_ref())
+    }
+
     /// Byte 0 of the adapter file.
     pub fn phys(&self) -> usize {
         self.adapter
@@ -77,14 +78,14 @@ fn text(folder: &Path, run: &'static str) -> Result<Text, String> {
     if !path.exists() {
         return Err(format!(
             "{} is missing; it holds a level text, such as CSMI=Restricted;",
-            path.display()
+            shown(&path)
         ));
     }
     let bytes = read(&path)?;
     if level::begins_with_mark(&bytes) {
         return Err(format!(
             "{} begins with a byte order mark, so a CSMI= behind it begins no entry; save it as plain ASCII without the mark",
-            path.display()
+            shown(&path)
         ));
     }
     Ok(Text { run, from, bytes })
@@ -98,60 +99,16 @@ fn all_levels(name: &'static str) -> Text {
     }
 }
 
-/// The bytes that a description makes, or the binary where there is none.
-fn part(
-    folder: &Path,
-    text: &str,
-    binary: &str,
-    parse: impl Fn(&str) -> Result<Vec<u8>, Fault>,
-) -> Result<Part, String> {
-    let (described, made) = (folder.join(text), folder.join(binary));
-    if !described.exists() {
-        if !made.exists() {
-            return Err(format!(
-                "{} has neither {text} nor {binary}",
-                folder.display()
-            ));
-        }
-        let bytes = read(&made)?;
-        return Ok(Part {
-            from: binary.to_string(),
-            bytes,
-        });
-    }
-    let words = String::from_utf8(read(&described)?).map_err(|_| {
-        format!(
-            "{} is not a text in UTF-8; save it as one",
-            described.display()
-        )
-    })?;
-    let bytes = parse(&words).map_err(|fault| format!("{}: {fault}", described.display()))?;
-    let other = made.exists() && fs::read(&made).map_or(true, |old| old != bytes);
-    let from = match other {
-        true => format!("{text} ({binary} beside it is another and is not run)"),
-        false => text.to_string(),
-    };
-    Ok(Part { from, bytes })
-}
-
 fn disks(path: &Path) -> Result<Part, String> {
     if !path.exists() {
+        let path = shown(path);
         return Err(format!(
-            "{} is missing; --disks takes the bytes of the disks",
-            path.display()
+            "{path} is missing; --disks takes the bytes of the disks"
         ));
     }
     Ok(Part {
-        from: path.display().to_string(),
+        from: shown(path),
         bytes: read(path)?,
+        warning: None,
     })
-}
-
-fn read(path: &Path) -> Result<Vec<u8>, String> {
-    let cannot = |error| format!("{} cannot be read: {error}", path.display());
-    // a pipe or a device might never end
-    if !fs::metadata(path).map_err(cannot)?.is_file() {
-        return Err(format!("{} is not a file", path.display()));
-    }
-    fs::read(path).map_err(cannot)
 }

@@ -6,6 +6,7 @@
 
 mod answer;
 mod exercise;
+mod files;
 mod left;
 mod level;
 mod marking;
@@ -50,7 +51,7 @@ fn work() -> Result<u8, String> {
     let marking = Marking::of(&exercise, options.replies.as_deref())?;
     if let Some(file) = &options.html {
         let written = fs::write(file, report::html(&marking));
-        written.map_err(|error| format!("{} cannot be written: {error}", file.display()))?;
+        written.map_err(|error| format!("{} cannot be written: {error}", files::shown(file)))?;
     }
     print(&match options.form {
         Form::Text => report::text(&marking),

@@ -225,7 +225,7 @@ fn where_cut(session: &Session, exercise: &Exercise) -> Option<String> {
 }
 
 fn warnings(exercise: &Exercise, runs: &[Run], session: &Session) -> Vec<String> {
-    let mut found = Vec::new();
+    let mut found: Vec<String> = exercise.warnings().cloned().collect();
     if runs.iter().all(|run| run.opening == 0) {
         found.extend(level::warnings(&exercise.texts, runs));
     }

@@ -1,5 +1,6 @@
 //! The words of the command line.
 
+use crate::files::shown;
 use std::ffi::OsString;
 use std::path::PathBuf;
 
@@ -114,8 +115,8 @@ impl Options {
         }
         match (folders.pop(), self.sample.take()) {
             (Some(folder), _) => {
-                self.name = folder.to_string_lossy().into_owned();
                 self.folder = PathBuf::from(folder);
+                self.name = shown(&self.folder);
             }
             (None, Some(sample)) => {
                 self.name = "samples/writes, the shipped sample".to_string();

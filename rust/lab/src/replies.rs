@@ -1,6 +1,7 @@
 //! The requests and each run's replies written out, in the form of a session, and beside them the numbers as the program prints
 //! them. `labkit reply` and `labkit session-text` read the first, `labkit compare` the second.
 
+use crate::files::shown;
 use crate::run::Run;
 use std::fs::{self, File};
 use std::io::{BufWriter, Write};
@@ -86,5 +87,5 @@ impl Out {
 }
 
 fn fault(path: &Path, error: std::io::Error) -> String {
-    format!("{} cannot be written: {error}", path.display())
+    format!("{} cannot be written: {error}", shown(path))
 }

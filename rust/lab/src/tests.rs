@@ -1,7 +1,8 @@
 //! Marks computed a second time, by the model of document 01, on generated exercises: damaged adapters, media of other lengths,
 //! cut sessions and every pair of levels among them. And every form of report on each.
 
-use crate::exercise::{Exercise, Part, Text};
+use crate::exercise::{Exercise, Text};
+use crate::files::Part;
 use crate::marking::Marking;
 use crate::report;
 use differential::generate;
@@ -18,6 +19,7 @@ fn exercise(seed: u64, levels: &[usize]) -> Exercise {
     let part = |from: &str, bytes| Part {
         from: from.to_string(),
         bytes,
+        warning: None,
     };
     let text = |level: &usize| Text {
         run: LEVELS[*level],

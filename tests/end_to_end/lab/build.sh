@@ -85,12 +85,17 @@ no_tool() {
 edited_copy() {
     local dir=$work/copy
     cp -r samples/writes "$dir" && sed -i '/command=30h/d' "$dir/session.txt"
-    marks 1 "mark: 6 of 11 differ, 4 denied low" "$dir" && grep -qF 'session   session.txt (session beside it is another and is not run), 11 requests' "$work/printed"
+    marks 1 "mark: 6 of 11 differ, 4 denied low" "$dir" && grep -qF 'session.txt is run, and session beside it, which is not what it describes, is not' "$work/printed"
 }
 edited_adapter() {
     local dir=$work/copy
     sed -i '3s/signature=ata //' "$dir/adapter.txt" && echo "get-sata-signature phy=0" >>"$dir/session.txt"
-    marks 1 "2010 no SATA signature" "$dir" && grep -qF 'adapter   adapter.txt (adapter.bin beside it is another and is not run)' "$work/printed"
+    marks 1 "2010 no SATA signature" "$dir" && grep -qF 'adapter.txt is run, and adapter.bin beside it, which is not what it describes, is not' "$work/printed"
+}
+newer_binary() {
+    local dir
+    dir=$(exercise newer_binary) && cp samples/writes/session "$dir/session" && touch -d '+1 hour' "$dir/session" &&
+        lab_refuses "$dir/session is newer than session.txt and is not what it describes; remove the one that is not to run" "$dir"
 }
 binaries_alone() {
     local dir=$work/binaries
@@ -111,5 +116,6 @@ try "no cargo" no_tool "the program is missing or older than rust/, and there is
 try "--help without anything made" eval 'rm -rf "$tree/target" "$tree/rust/target"; in_tree --help && diff rust/lab/src/usage.txt "$work/printed" && diff /dev/null "$work/errors"'
 try "an edited copy of a sample runs the edited session" edited_copy
 try "an edited copy of a sample runs the edited adapter" edited_adapter
+try "a binary put beside a text later" newer_binary
 try "binaries without descriptions" binaries_alone
 rm -rf "$tree" "$work/other"

@@ -66,9 +66,9 @@ opened() {
         HOME=$home timeout 60 "$1" --headless --screenshot "$work/page.png" "$url" && [ "$(head -c 4 "$work/page.png" | tail -c 3)" = PNG ]
         ;;
     *)
-        HOME=$home timeout 60 "$1" --headless --no-sandbox --disable-gpu --dump-dom "$url" >"$work/dom" &&
+        HOME=$home timeout 60 "$1" --headless --no-sandbox --disable-gpu --disable-dev-shm-usage --dump-dom "$url" >"$work/dom" &&
             grep -q 'mark: 8 of 12 differ, 5 denied low' "$work/dom" && [ "$(grep -c '<tr class="differs"><td class="number">[0-9]*</td><td class="request">' "$work/dom")" -eq 8 ] &&
-            HOME=$home timeout 60 "$1" --headless --no-sandbox --disable-gpu --print-to-pdf="$work/page.pdf" "$url" && [ "$(head -c 4 "$work/page.pdf")" = %PDF ]
+            HOME=$home timeout 60 "$1" --headless --no-sandbox --disable-gpu --disable-dev-shm-usage --print-to-pdf="$work/page.pdf" "$url" && [ "$(head -c 4 "$work/page.pdf")" = %PDF ]
         ;;
     esac
 }

@@ -29,6 +29,8 @@ dir=$(exercise folder_text) && rm "$dir/low.txt" && mkdir "$dir/low.txt"
 try "a folder for a text" lab_refuses "$dir/low.txt is not a file" "$dir"
 dir=$(exercise pipe) && rm "$dir/session.txt" && mkfifo "$dir/session"
 try "a pipe for a session" lab_refuses "$dir/session is not a file" "$dir"
+dir=$(exercise pipe_beside) && mkfifo "$dir/session"
+try "a pipe beside a text" marks 0 "warning session.txt is run, and session beside it" "$dir"
 
 # binary garbage in each file
 garbage() {
@@ -59,6 +61,8 @@ try "byte order marks and CRLF in descriptions" marks 0 "mark: 0 of 12 differ" "
 mkdir "$work/an exercise" && cp samples/writes/*.txt "$work/an exercise/"
 try "a name with a space" marks 1 "mark: 8 of 12 differ" "$work/an exercise"
 try "a slash behind it" marks 1 "mark: 8 of 12 differ" "$work/an exercise/"
+mkdir "$work/$(printf 'two\nlines\377')"
+try "a name of two lines that is not UTF-8" lab_refuses "$work/two?lines�/low.txt is missing; it holds a level text, such as CSMI=Restricted;" "$work/$(printf 'two\nlines\377')"
 try "a name like an option" marks 1 "mark: 8 of 12 differ" -- "$(mkdir "$work/-x" && cp samples/writes/*.txt "$work/-x/" && echo "$work/-x")"
 elsewhere() {
     (cd "$work" && "$lab" "an exercise" >printed 2>errors; [ $? -eq 1 ] && diff /dev/null errors && grep -q '^exercise  an exercise$' printed)
