@@ -34,57 +34,50 @@ pub struct Marking<'a> {
 pub struct Row {
     pub answers: Vec<Answer>,
     /// For each run the first run that gave the same reply.
-    pub like: Vec<u8>,
+    like: Vec<usize>,
+    /// Runs with the same answer gave other replies.
+    pub behind: bool,
+    /// Parts of the replies that differ: where runs with the same answer gave other replies, between these; else between all.
     pub differences: Vec<Difference>,
 }
 
+/// How many parts of replies are shown of a request.
+const PARTS: usize = 8;
+
 impl Row {
     fn of(runs: &[Run]) -> Row {
-        let same = |run: &Run| runs.iter().position(|first| run.replied_as(first));
-        let like: Vec<u8> = runs
+        let like: Vec<usize> = runs
             .iter()
-            .map(|run| same(run).unwrap_or(0) as u8)
+            .map(|run| first(runs, |other| run.replied_as(other)))
             .collect();
-        let replies: Vec<&[u8]> = runs.iter().map(|run| run.reply.as_slice()).collect();
-        let differ = like.iter().any(|first| *first != 0);
-        Row {
-            answers: runs.iter().map(Run::answer).collect(),
+        let answers: Vec<Answer> = runs.iter().map(Run::answer).collect();
+        let alike: Vec<usize> = answers
+            .iter()
+            .map(|answer| first(&answers, |other| answer == other))
+            .collect();
+        let behind = (0..runs.len()).any(|run| like[run] != like[alike[run]]);
+        let mut row = Row {
+            answers,
             like,
-            differences: if differ {
-                differences(&replies)
-            } else {
-                Vec::new()
-            },
+            behind,
+            differences: Vec::new(),
+        };
+        if row.differs() {
+            let replies: Vec<&[u8]> = runs.iter().map(|run| run.reply.as_slice()).collect();
+            let all = vec![0; runs.len()];
+            row.differences = differences(&replies, if behind { &alike } else { &all }, PARTS);
         }
+        row
     }
 
     pub fn differs(&self) -> bool {
         self.like.iter().any(|first| *first != 0)
     }
+}
 
-    /// Two runs whose answers are the same and whose replies are not.
-    fn alike(&self, one: usize, other: usize) -> bool {
-        self.answers[one] == self.answers[other] && self.like[one] != self.like[other]
-    }
-
-    /// What differs in replies whose answers, which are shown first, are the same.
-    pub fn behind(&self) -> Vec<&Difference> {
-        let runs = self.answers.len();
-        let pairs = || (0..runs).flat_map(|one| (0..one).map(move |other| (one, other)));
-        let hidden: Vec<_> = pairs()
-            .filter(|(one, other)| self.alike(*one, *other))
-            .collect();
-        let shows = |d: &Difference| {
-            hidden
-                .iter()
-                .any(|(one, other)| d.values[*one] != d.values[*other])
-        };
-        let found: Vec<_> = self.differences.iter().filter(|d| shows(d)).collect();
-        match found.is_empty() && !hidden.is_empty() {
-            true => self.differences.iter().collect(),
-            false => found,
-        }
-    }
+/// The first of a list for which a test holds.
+fn first<T>(list: &[T], test: impl Fn(&T) -> bool) -> usize {
+    list.iter().position(test).unwrap_or(0)
 }
 
 impl<'a> Marking<'a> {

@@ -104,3 +104,7 @@ dir=$(exercise phys) && for n in 5 6 7 8; do echo "phy" >>"$dir/adapter.txt"; do
 try "8 phys for the program" refuses 1 "labkit: $dir/adapter.txt: 8 phys, and the program takes up to 7 (it prints open 104); the library takes 32: labkit adapter --library" "$kit" adapter "$dir/adapter.txt" "$work/made"
 try "8 phys for the library" "$kit" adapter --library "$dir/adapter.txt" "$work/made"
 try "8 phys in ./lab" marks 0 "warning 8 phys: the program simulator takes up to 7" "$dir"
+
+# More parts of a reply differ than are shown.
+dir=$(with parts session.txt "$(for n in 0 1 2 3; do printf 'set-phy-info phy=%s maximum=8 class=2 minimum=8\\n' $n; done)get-phy-info\n")
+try "parts that are counted" marks 1 " and 2 more" "$dir"

@@ -77,7 +77,9 @@ fn of_row(number: usize, request: &str, row: &Row) -> String {
     );
     cells.push(cell("word", if row.differs() { "differs" } else { "" }));
     let mut out = line(if row.differs() { "differs" } else { "same" }, &cells);
-    for difference in &row.differences {
+    // the return code stands in the row itself
+    let parts = row.differences.iter();
+    for difference in parts.filter(|difference| difference.what != "return-code") {
         out.push_str(&line(
             "detail",
             &valued(&["", &difference.what], difference, ""),

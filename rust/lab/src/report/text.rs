@@ -45,7 +45,9 @@ fn requests(marking: &Marking) -> Vec<Vec<String>> {
         cells.extend(row.answers.iter().map(|answer| answer.words()));
         cells.push(if row.differs() { "differs" } else { "" }.to_string());
         lines.push(cells);
-        lines.extend(row.behind().into_iter().map(|d| valued(&["", ""], d)));
+        if row.behind {
+            lines.extend(row.differences.iter().map(|d| valued(&["", ""], d)));
+        }
     }
     right_aligned(&mut lines);
     lines

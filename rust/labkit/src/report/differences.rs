@@ -20,61 +20,108 @@ const WIDEST: usize = 40;
 /// How many bytes are shown of them.
 const EXCERPT: usize = 8;
 
-/// The differences of replies of one length to one request; none if they are the same bytes.
-pub fn differences(replies: &[&[u8]]) -> Vec<Difference> {
-    let Some(control) = replies.first().and_then(|reply| control_code(reply)) else {
-        return bytes_differ("buffer", replies).into_iter().collect();
+/// The differences of replies of one length to one request; none if they are the same bytes. Each reply is compared with the one that
+/// `like` names for it, all with the first if that is all zeros. From so many on they are counted and not shown.
+pub fn differences(replies: &[&[u8]], like: &[usize], most: usize) -> Vec<Difference> {
+    let mut finder = Finder {
+        like,
+        most,
+        found: Vec::new(),
+        more: 0,
     };
-    let layout = layout(control);
-    let heads = parts(replies, 0, HEADER);
-    let mut found = by_fields("", &HEADER_FIELDS, &heads);
-    let bodies = parts(replies, HEADER, replies[0].len());
-    if layout.fields.is_empty() || bodies[0].len() < layout.size {
-        found.extend(bytes_differ("body", &bodies));
-        return found;
-    }
-    for field in layout.fields {
-        match field.name {
-            "entities" => found.extend(entities(&field_parts(field, &bodies))),
-            _ => found.extend(by_fields("", std::slice::from_ref(field), &bodies)),
-        }
-    }
-    let rest = match control {
-        STP_PASSTHRU => "data",
-        _ => "bytes behind the structure",
-    };
-    let rests = parts(&bodies, layout.size, bodies[0].len());
-    found.extend(bytes_differ(rest, &rests));
-    found
+    finder.reply(replies);
+    finder.end(replies.len())
 }
 
-/// The fields of a table in which structures differ.
-fn by_fields(prefix: &str, table: &[Field], structures: &[&[u8]]) -> Vec<Difference> {
-    let mut found = Vec::new();
-    for field in table {
-        let name = format!("{prefix}{}", field.name);
-        match field.kind {
-            Kind::Bytes => found.extend(bytes_differ(&name, &field_parts(field, structures))),
-            _ => found.extend(values_differ(name, structures, |s| phy_value(field, s))),
-        }
-    }
-    found
+struct Finder<'a> {
+    like: &'a [usize],
+    most: usize,
+    found: Vec<Difference>,
+    more: usize,
 }
 
-/// The fields of the phys of a code 20.
-fn entities(lists: &[&[u8]]) -> Vec<Difference> {
-    let named: Vec<Field> = PHY
-        .into_iter()
-        .filter(|f| f.at + f.size <= ENTITY)
-        .collect();
-    let mut found = Vec::new();
-    for n in 0..lists[0].len() / ENTITY {
-        let phys = parts(lists, n * ENTITY, (n + 1) * ENTITY);
-        if !same(&phys) {
-            found.extend(by_fields(&format!("phy {n} "), &named, &phys));
+impl Finder<'_> {
+    fn reply(&mut self, replies: &[&[u8]]) {
+        let Some(control) = replies.first().and_then(|reply| control_code(reply)) else {
+            return self.bytes("buffer", replies);
+        };
+        let layout = layout(control);
+        self.fields("", &HEADER_FIELDS, &parts(replies, 0, HEADER));
+        let bodies = parts(replies, HEADER, replies[0].len());
+        if layout.fields.is_empty() || bodies[0].len() < layout.size {
+            return self.bytes("body", &bodies);
+        }
+        for field in layout.fields {
+            match field.name {
+                "entities" => self.entities(&field_parts(field, &bodies)),
+                _ => self.fields("", std::slice::from_ref(field), &bodies),
+            }
+        }
+        let rest = match control {
+            STP_PASSTHRU => "data",
+            _ => "bytes behind the structure",
+        };
+        self.bytes(rest, &parts(&bodies, layout.size, bodies[0].len()));
+    }
+
+    /// The fields of a table.
+    fn fields(&mut self, prefix: &str, table: &[Field], structures: &[&[u8]]) {
+        for field in table {
+            let name = || format!("{prefix}{}", field.name);
+            match field.kind {
+                Kind::Bytes | Kind::Text => {
+                    let strings = field_parts(field, structures);
+                    if self.differ(|run| strings[run]) {
+                        self.keep(|like| bytes_difference(&name(), &strings, like));
+                    }
+                }
+                _ if self.differ(|run| field.get(structures[run])) => self.keep(|_| Difference {
+                    what: name(),
+                    values: structures.iter().map(|s| phy_value(field, s)).collect(),
+                }),
+                _ => {}
+            }
         }
     }
-    found
+
+    /// The fields of the phys of a code 20.
+    fn entities(&mut self, lists: &[&[u8]]) {
+        let count = PHY.partition_point(|field| field.at + field.size <= ENTITY);
+        for n in 0..lists[0].len() / ENTITY {
+            let phys = parts(lists, n * ENTITY, (n + 1) * ENTITY);
+            if self.differ(|run| phys[run]) {
+                self.fields(&format!("phy {n} "), &PHY[..count], &phys);
+            }
+        }
+    }
+
+    fn bytes(&mut self, name: &str, strings: &[&[u8]]) {
+        if self.differ(|run| strings[run]) {
+            self.keep(|like| bytes_difference(name, strings, like));
+        }
+    }
+
+    fn differ<T: PartialEq>(&self, value: impl Fn(usize) -> T) -> bool {
+        let mut runs = self.like.iter().enumerate();
+        runs.any(|(run, first)| value(run) != value(*first))
+    }
+
+    fn keep(&mut self, make: impl Fn(&[usize]) -> Difference) {
+        match self.found.len() < self.most {
+            true => self.found.push(make(self.like)),
+            false => self.more += 1,
+        }
+    }
+
+    fn end(mut self, runs: usize) -> Vec<Difference> {
+        if self.more > 0 {
+            self.found.push(Difference {
+                what: format!("and {} more", self.more),
+                values: vec![String::new(); runs],
+            });
+        }
+        self.found
+    }
 }
 
 /// A difference of values that a function shows.
@@ -88,40 +135,36 @@ pub fn values_differ(
     differ.then_some(Difference { what, values })
 }
 
-/// A difference of byte strings, of which long ones are shown from the first byte that differs.
+/// A difference of byte strings.
 pub fn bytes_differ(name: &str, strings: &[&[u8]]) -> Option<Difference> {
-    if same(strings) {
-        return None;
-    }
+    let differ = strings.windows(2).any(|pair| pair[0] != pair[1]);
+    differ.then(|| bytes_difference(name, strings, &vec![0; strings.len()]))
+}
+
+/// Byte strings that differ. Long ones are shown from the first byte in which one differs from that which `like` names for it.
+fn bytes_difference(name: &str, strings: &[&[u8]], like: &[usize]) -> Difference {
     let length = strings.iter().map(|s| s.len()).max().unwrap_or(0);
-    let differs = |at: &usize| {
-        strings
-            .windows(2)
-            .any(|pair| pair[0].get(*at) != pair[1].get(*at))
-    };
-    let places: Vec<usize> = (0..length).filter(differs).collect();
-    let first = places.first().copied().unwrap_or(0);
+    let pairs = || strings.iter().zip(like);
+    let differs = |at: usize| pairs().any(|(s, first)| s.get(at) != strings[*first].get(at));
+    let first = (0..length).find(|at| differs(*at)).unwrap_or(0);
+    let count = (first..length).filter(|at| differs(*at)).count();
     let whole: Vec<String> = strings.iter().map(|s| show_bytes(s)).collect();
     let values = match whole.iter().all(|value| value.len() <= WIDEST) {
         true => whole,
         false => strings.iter().map(|s| excerpt(s, first)).collect(),
     };
-    let what = match places.len() {
+    let what = match count {
         1 => format!("{name}, 1 byte"),
         many => format!("{name}, {many} bytes"),
     };
-    Some(Difference { what, values })
+    Difference { what, values }
 }
 
 /// Some bytes of a string from a place on: `at 17: 5A5A5A5A..`.
 fn excerpt(bytes: &[u8], at: usize) -> String {
     let end = bytes.len().min(at + EXCERPT);
-    let shown: String = bytes
-        .get(at..end)
-        .unwrap_or(&[])
-        .iter()
-        .map(|b| format!("{b:02X}"))
-        .collect();
+    let part = bytes.get(at..end).unwrap_or(&[]);
+    let shown: String = part.iter().map(|b| format!("{b:02X}")).collect();
     let more = if end < bytes.len() { ".." } else { "" };
     format!("at {at}: {shown}{more}")
 }
@@ -131,14 +174,8 @@ fn field_parts<'a>(field: &Field, structures: &[&'a [u8]]) -> Vec<&'a [u8]> {
 }
 
 fn parts<'a>(strings: &[&'a [u8]], from: usize, to: usize) -> Vec<&'a [u8]> {
-    strings
-        .iter()
-        .map(|s| s.get(from..to).unwrap_or(&[]))
-        .collect()
-}
-
-fn same(strings: &[&[u8]]) -> bool {
-    strings.windows(2).all(|pair| pair[0] == pair[1])
+    let part = |s: &&'a [u8]| s.get(from..to).unwrap_or(&[]);
+    strings.iter().map(part).collect()
 }
 
 #[cfg(test)]
@@ -151,7 +188,7 @@ mod tests {
     }
 
     fn lines(low: &[u8], high: &[u8]) -> Vec<String> {
-        let found = differences(&[low, high]);
+        let found = differences(&[low, high], &[0, 0], 99);
         let line = |d: &Difference| format!("{}: {}", d.what, d.values.join(" | "));
         found.iter().map(line).collect()
     }
@@ -168,7 +205,7 @@ mod tests {
                 "data, 512 bytes: 00*512 | 5A*512"
             ]
         );
-        assert_eq!(differences(&[&low, &low, &low]), []);
+        assert_eq!(differences(&[&low, &low, &low], &[0; 3], 99), []);
     }
 
     #[test]
@@ -193,6 +230,21 @@ mod tests {
         assert_eq!(found.values[1], "at 17: 0012131415161718..");
     }
 
+    #[test]
+    fn runs_that_are_compared_and_fields_that_are_counted() {
+        let denied = request("stp-passthru data=00*20 return-code=4");
+        let low = request("stp-passthru data=00*20 data-bytes=20");
+        let high = request("stp-passthru data=00*19+01 data-bytes=20");
+        let found = differences(&[&denied, &low, &high], &[0, 1, 1], 99);
+        assert_eq!(found.len(), 1);
+        assert_eq!(found[0].what, "data, 1 byte");
+        let found = differences(&[&denied, &low, &high], &[0, 0, 0], 1);
+        assert_eq!(found.len(), 2);
+        assert_eq!(found[0].what, "return-code");
+        assert_eq!(found[1].what, "and 2 more");
+        assert_eq!(found[1].values, ["", "", ""]);
+    }
+
     /// Whatever byte differs, in whatever request, some difference names it.
     #[test]
     fn every_byte_is_seen() {
@@ -215,7 +267,7 @@ mod tests {
                 let mut other = sent.clone();
                 other[at] ^= 0x11;
                 assert!(
-                    !differences(&[&sent, &other]).is_empty(),
+                    !differences(&[&sent, &other], &[0, 0], 99).is_empty(),
                     "{line}, byte {at}"
                 );
             }
