@@ -18,8 +18,7 @@ const TOGETHER: Duration = Duration::from_secs(2);
 
 /// A path as one line.
 pub fn shown(path: &Path) -> String {
-    let plain = |c: char| if c.is_control() { '?' } else { c };
-    path.to_string_lossy().chars().map(plain).collect()
+    labkit::text::one_line(&path.to_string_lossy())
 }
 
 pub fn read(path: &Path) -> Result<Vec<u8>, String> {
@@ -77,7 +76,8 @@ fn beside(described: &Path, made: &Path, bytes: &[u8]) -> Result<Option<String>,
     }
     let name = |path: &Path| shown(Path::new(path.file_name().unwrap_or_default()));
     let (text, binary) = (name(described), name(made));
-    if time(made) > time(described) + TOGETHER {
+    let later = time(described).checked_add(TOGETHER);
+    if later.is_some_and(|later| time(made) > later) {
         return Err(format!(
             "{} is newer than {text} and is not what it describes; remove the one that is not to run",
             shown(made)

@@ -5,6 +5,7 @@
 //! standard error, with status 2.
 
 mod answer;
+mod beside;
 mod exercise;
 mod files;
 mod left;
@@ -14,6 +15,7 @@ mod options;
 mod progress;
 mod replies;
 mod report;
+mod row;
 mod run;
 mod state;
 mod verdict;
@@ -22,6 +24,7 @@ mod verdict;
 mod tests;
 
 use exercise::Exercise;
+use labkit::text::one_line;
 use marking::Marking;
 use options::{Form, Options};
 use std::env;
@@ -35,7 +38,7 @@ const NO_MARK: u8 = 2;
 fn main() -> ExitCode {
     let status = work().unwrap_or_else(|reason| {
         // there is nowhere to say that standard error takes nothing
-        let _ = writeln!(std::io::stderr(), "lab: {reason}");
+        let _ = writeln!(std::io::stderr(), "lab: {}", one_line(&reason));
         NO_MARK
     });
     ExitCode::from(status)

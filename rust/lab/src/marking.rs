@@ -1,15 +1,15 @@
 //! An exercise run under its levels, request by request through the library, and what differs between the runs.
 
-use crate::answer::Answer;
+use crate::beside::Beside;
 use crate::exercise::Exercise;
 use crate::left::{self, Group, Left};
 use crate::level;
 use crate::progress::Progress;
 use crate::replies::Replies;
+use crate::row::Row;
 use crate::run::Run;
 use crate::verdict;
 use labkit::adapter::{warnings as adapter_warnings, PROGRAM_PHYS};
-use labkit::report::{differences, Difference};
 use labkit::session::{control_code, split, Session, HEADER, STP_PASSTHRU};
 use std::collections::HashSet;
 use std::path::Path;
@@ -24,60 +24,10 @@ pub struct Marking<'a> {
     /// Where the session is cut.
     pub cut: Option<String>,
     pub warnings: Vec<String>,
-    /// The higher run without the requests denied in the lower one was the lower run.
-    pub explained: bool,
+    /// Whether the higher run without the requests denied in the lower one was the lower run, where that was tried.
+    pub explained: Option<bool>,
     /// Why there is no mark.
     pub no_mark: Option<String>,
-}
-
-/// One request: what each run answered, and in what the whole replies differ.
-pub struct Row {
-    pub answers: Vec<Answer>,
-    /// For each run the first run that gave the same reply.
-    like: Vec<usize>,
-    /// Runs with the same answer gave other replies.
-    pub behind: bool,
-    /// Parts of the replies that differ: where runs with the same answer gave other replies, between these; else between all.
-    pub differences: Vec<Difference>,
-}
-
-/// How many parts of replies are shown of a request.
-const PARTS: usize = 8;
-
-impl Row {
-    fn of(runs: &[Run]) -> Row {
-        let like: Vec<usize> = runs
-            .iter()
-            .map(|run| first(runs, |other| run.replied_as(other)))
-            .collect();
-        let answers: Vec<Answer> = runs.iter().map(Run::answer).collect();
-        let alike: Vec<usize> = answers
-            .iter()
-            .map(|answer| first(&answers, |other| answer == other))
-            .collect();
-        let behind = (0..runs.len()).any(|run| like[run] != like[alike[run]]);
-        let mut row = Row {
-            answers,
-            like,
-            behind,
-            differences: Vec::new(),
-        };
-        if row.differs() {
-            let replies: Vec<&[u8]> = runs.iter().map(|run| run.reply.as_slice()).collect();
-            let all = vec![0; runs.len()];
-            row.differences = differences(&replies, if behind { &alike } else { &all }, PARTS);
-        }
-        row
-    }
-
-    pub fn differs(&self) -> bool {
-        self.like.iter().any(|first| *first != 0)
-    }
-}
-
-/// The first of a list for which a test holds.
-fn first<T>(list: &[T], test: impl Fn(&T) -> bool) -> usize {
-    list.iter().position(test).unwrap_or(0)
 }
 
 impl<'a> Marking<'a> {
@@ -100,40 +50,26 @@ impl<'a> Marking<'a> {
             runs,
             rows: Vec::new(),
             left: Vec::new(),
-            explained: false,
+            explained: None,
             no_mark,
         };
         if marking.no_mark.is_none() {
+            let two = exercise.texts.len() == 2;
+            let without = two.then(|| open("high", &exercise.texts[1].bytes));
+            let beside = Beside::new(open("None", b"CSMI=None;"), without);
             let replies = folder.map(|folder| Replies::create(folder, &marking.runs));
-            let explained =
-                (exercise.texts.len() == 2).then(|| open("high", &exercise.texts[1].bytes));
-            let none = open("None", b"CSMI=None;");
-            marking.run(none, explained, replies.transpose()?)?;
+            marking.run(beside, replies.transpose()?)?;
         }
         Ok(marking)
     }
 
-    /// Sends every request to every run. Beside them go a run at level None, which denies what gets past its header's checks, and a
-    /// higher run without the requests denied in the lower one, which has to be the lower one.
-    fn run(
-        &mut self,
-        mut none: Run,
-        mut without: Option<Run>,
-        mut replies: Option<Replies>,
-    ) -> Result<(), String> {
+    /// Sends every request to every run.
+    fn run(&mut self, mut beside: Beside, mut replies: Option<Replies>) -> Result<(), String> {
         let mut progress = Progress::new(self.requests.len());
-        let (mut past_header, mut explained) = (false, true);
         for (i, request) in self.requests.iter().enumerate() {
             self.runs.iter_mut().for_each(|run| run.handle(request));
             let row = Row::of(&self.runs);
-            if !past_header {
-                none.handle(request);
-                past_header = none.answer().is_denied();
-            }
-            if let Some(without) = without.as_mut().filter(|_| !row.answers[0].is_denied()) {
-                without.handle(request);
-                explained &= without.replied_as(&self.runs[0]);
-            }
+            beside.handle(request, &row, &self.runs[0]);
             if let Some(replies) = &mut replies {
                 replies.add(request, &self.runs)?;
             }
@@ -141,24 +77,10 @@ impl<'a> Marking<'a> {
             progress.at(i + 1);
         }
         progress.end();
-        self.explained = without.is_some_and(|without| explained && without.left_as(&self.runs[0]));
         self.left = self.left_behind();
-        self.no_mark = self.after(past_header);
+        self.explained = beside.explained(&self.runs[0]);
+        self.no_mark = verdict::after(beside.past_header(), self.explained);
         replies.map_or(Ok(()), Replies::end)
-    }
-
-    /// Why runs that have ended give no mark.
-    fn after(&self, past_header: bool) -> Option<String> {
-        if !past_header {
-            return Some(
-                "no request gets past its header's checks, so no level was asked for anything"
-                    .to_string(),
-            );
-        }
-        let broken = self.runs.len() == 2 && !self.explained;
-        broken.then(|| {
-            "the higher run without the requests denied low is not the lower run, which is proved; make the library anew: rt staticlib exports".to_string()
-        })
     }
 
     fn left_behind(&self) -> Vec<Left> {
@@ -179,17 +101,10 @@ impl<'a> Marking<'a> {
             .count()
     }
 
-    /// How many requests the lower of two runs denied.
-    pub fn denied_low(&self) -> Option<usize> {
-        (self.runs.len() == 2).then(|| self.denied(0))
-    }
-
     /// How many replies differ between two runs.
     pub fn between(&self, one: usize, other: usize) -> usize {
-        self.rows
-            .iter()
-            .filter(|row| row.like[one] != row.like[other])
-            .count()
+        let differs = |row: &&Row| row.differs_between(one, other);
+        self.rows.iter().filter(differs).count()
     }
 
     /// How many values, and how many sectors, differ at the end.

@@ -5,6 +5,7 @@ use crate::exercise::{Exercise, Text};
 use crate::files::Part;
 use crate::marking::Marking;
 use crate::report;
+use crate::row::Row;
 use differential::generate;
 use labkit::names::LEVELS;
 use labkit::session::split;
@@ -61,17 +62,18 @@ fn modelled(exercise: &Exercise, text: &[u8]) -> Modelled {
     }
 }
 
-/// The status, the differing replies and those denied low, by the model.
-fn expected(exercise: &Exercise) -> (u8, usize, usize) {
+/// The status, the differing replies, those denied low, and whether the runs left the same, by the model.
+fn expected(exercise: &Exercise) -> (u8, usize, usize, bool) {
     let [low, high] = [0, 1].map(|i| modelled(exercise, &exercise.texts[i].bytes));
     let none = modelled(exercise, b"CSMI=None;");
     if low.opening != 0 || none.denied == 0 {
-        return (2, 0, 0);
+        return (2, 0, 0, true);
     }
     let pairs = low.replies.iter().zip(&high.replies);
     let differ = pairs.filter(|(one, other)| one != other).count();
-    let same = differ == 0 && low.left == high.left;
-    (if same { 0 } else { 1 }, differ, low.denied)
+    let same = low.left == high.left;
+    let status = if differ == 0 && same { 0 } else { 1 };
+    (status, differ, low.denied, same)
 }
 
 #[test]
@@ -84,12 +86,16 @@ fn marks_are_those_of_the_model() {
         }
         let exercise = exercise(seed, &[low, high]);
         let marking = Marking::of(&exercise, None).unwrap();
-        let (status, differ, denied) = expected(&exercise);
+        let (status, differ, denied, same) = expected(&exercise);
         assert_eq!(marking.status(), status, "seed {seed}");
         if status < 2 {
-            assert!(marking.explained, "seed {seed}");
-            let found = (marking.differing(), marking.denied(0));
-            assert_eq!(found, (differ, denied), "seed {seed}");
+            assert_eq!(marking.explained, Some(true), "seed {seed}");
+            let found = (
+                marking.differing(),
+                marking.denied(0),
+                marking.left.is_empty(),
+            );
+            assert_eq!(found, (differ, denied, same), "seed {seed}");
         }
         statuses[usize::from(status)] += 1;
     }
@@ -103,7 +109,7 @@ fn reports_of_any_exercise() {
         for levels in [&[1, 3][..], &[0, 1, 2, 3]] {
             let exercise = exercise(seed, levels);
             let marking = Marking::of(&exercise, None).unwrap();
-            let named = |row: &crate::marking::Row| row.differs() != row.differences.is_empty();
+            let named = |row: &Row| row.differs() != row.differences.is_empty();
             assert!(marking.rows.iter().all(named), "seed {seed}");
             let text = report::text(&marking);
             let last = text.lines().last().unwrap_or("");

@@ -9,6 +9,10 @@ use labkit::session::{Session, MOST_REQUEST};
 const BAD_TEXT: u32 = 101;
 const MEDIUM_LENGTH: u32 = 106;
 
+const NOTHING_ASKED: &str =
+    "no request gets past its header's checks, so no level was asked for anything";
+const NOT_AS_PROVED: &str = "the high run without the requests denied low is not the low run, as it is proved to be; make the library anew: rt staticlib exports";
+
 /// Why no request is run at all; none if the runs may begin.
 pub fn before(exercise: &Exercise, runs: &[Run], session: &Session) -> Option<String> {
     let refused = exercise
@@ -32,6 +36,15 @@ pub fn before(exercise: &Exercise, runs: &[Run], session: &Session) -> Option<St
         (true, true) => Some(format!("the session of {} is empty", exercise.session.from)),
         (true, false) => Some(cut(session, 0)),
         _ => None,
+    }
+}
+
+/// Why runs that have ended give no mark, by what the runs beside them say.
+pub fn after(past_header: bool, explained: Option<bool>) -> Option<String> {
+    match (past_header, explained) {
+        (false, _) => Some(NOTHING_ASKED.to_string()),
+        (true, Some(false)) => Some(NOT_AS_PROVED.to_string()),
+        (true, _) => None,
     }
 }
 
@@ -74,6 +87,17 @@ pub fn cut(session: &Session, before: usize) -> String {
 mod tests {
     use super::*;
     use labkit::session::split;
+
+    #[test]
+    fn runs_that_give_no_mark() {
+        let begins =
+            |verdict: Option<String>, words: &str| verdict.is_some_and(|v| v.starts_with(words));
+        assert!(begins(after(false, Some(true)), "no request gets past"));
+        assert!(begins(after(false, None), "no request gets past"));
+        assert!(begins(after(true, Some(false)), "the high run without"));
+        assert_eq!(after(true, Some(true)), None);
+        assert_eq!(after(true, None), None);
+    }
 
     #[test]
     fn where_a_session_is_cut() {

@@ -1,6 +1,7 @@
 //! The lab kit's commands. Faults go to standard error in one line, with status 1; bad use has status 2.
 
 use labkit::report::{self, Transcript};
+use labkit::text::one_line;
 use labkit::{adapter, session, value};
 use std::env;
 use std::fs;
@@ -56,7 +57,7 @@ fn main() -> ExitCode {
 
 /// A line on standard error, if that takes it.
 fn say(line: &str) {
-    let _ = writeln!(std::io::stderr(), "labkit: {line}");
+    let _ = writeln!(std::io::stderr(), "labkit: {}", one_line(line));
 }
 
 /// Makes an adapter file of at most so many phys, and warns of what makes real consoles behave oddly.

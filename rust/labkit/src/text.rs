@@ -70,6 +70,12 @@ impl Line {
     }
 }
 
+/// A text as one line that a terminal takes as it is: a question mark for each control character.
+pub fn one_line(text: &str) -> String {
+    let plain = |c: char| if c.is_control() { '?' } else { c };
+    text.chars().map(plain).collect()
+}
+
 /// The lines of a text, without empty ones and comments.
 pub fn lines(text: &str) -> Result<Vec<Line>, Fault> {
     let mut found: Vec<Line> = Vec::new();

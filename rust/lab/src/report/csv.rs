@@ -4,7 +4,8 @@
 use super::escape::csv as cell;
 use super::{group, verdict};
 use crate::left::GROUPS;
-use crate::marking::{Marking, Row};
+use crate::marking::Marking;
+use crate::row::Row;
 use labkit::report::request_words;
 
 pub fn csv(marking: &Marking) -> String {

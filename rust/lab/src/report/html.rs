@@ -4,7 +4,8 @@
 use super::escape::html as plain;
 use super::{explained, group, head, pairs, verdict};
 use crate::left::{sectors, COUNTERS, GROUPS};
-use crate::marking::{Marking, Row};
+use crate::marking::Marking;
+use crate::row::Row;
 use crate::state::{parts, phy_at, PHY_SIZE, SECTOR};
 use labkit::adapter::PHY;
 use labkit::report::{request_words, Difference};

@@ -4,7 +4,8 @@ use super::escape::json as string;
 use super::{group, pairs, verdict};
 use crate::answer::Answer;
 use crate::left::GROUPS;
-use crate::marking::{Marking, Row};
+use crate::marking::Marking;
+use crate::row::Row;
 use labkit::names::level_name;
 use labkit::report::{request_words, Difference};
 

@@ -65,8 +65,10 @@ fn counted(count: usize, what: &str) -> String {
 
 /// The line that says that the denied requests are the whole difference, where that was tried.
 fn explained(marking: &Marking) -> Option<String> {
-    let tried = marking.no_mark.is_none() && marking.explained;
-    let denied = marking.denied_low().filter(|denied| tried && *denied > 0)?;
+    let denied = marking.denied(0);
+    if marking.no_mark.is_some() || marking.explained != Some(true) || denied == 0 {
+        return None;
+    }
     Some(format!(
         "tried: without the {} denied low, the high run gets the replies of the low run and leaves what it left",
         counted(denied, "request")
