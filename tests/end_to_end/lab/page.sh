@@ -47,7 +47,11 @@ try "the page has counters and changed sectors" counters_and_sectors
 cp "$page" "$work/writes.html"
 try "the page escapes names" escaped
 try "a page without a mark" without_a_mark
-try "a page of four levels" eval '"$lab" --levels --html "$page" >/dev/null; has 1 "<th>None</th><th>Restricted</th><th>Limited</th><th>Full</th><th>differs</th></tr></thead>$" || has 4 "<th>Limited</th>"'
+four_levels() {
+    "$lab" --levels --html "$page" >/dev/null
+    [ $? -eq 1 ] && has 4 '<th>None</th><th>Restricted</th><th>Limited</th><th>Full</th><th>differs</th>'
+}
+try "a page of four levels" four_levels
 
 # browser: the first that is installed
 browser() {

@@ -67,19 +67,22 @@ impl Finder<'_> {
     /// The fields of a table.
     fn fields(&mut self, prefix: &str, table: &[Field], structures: &[&[u8]]) {
         for field in table {
-            let name = || format!("{prefix}{}", field.name);
+            let strings = field_parts(field, structures);
+            let differ = match field.kind {
+                Kind::Bytes | Kind::Text => self.differ(|run| strings[run]),
+                _ => self.differ(|run| field.get(structures[run])),
+            };
+            if !differ {
+                continue;
+            }
+            let what = || format!("{prefix}{}", field.name);
+            let values = || structures.iter().map(|s| phy_value(field, s)).collect();
             match field.kind {
-                Kind::Bytes | Kind::Text => {
-                    let strings = field_parts(field, structures);
-                    if self.differ(|run| strings[run]) {
-                        self.keep(|like| bytes_difference(&name(), &strings, like));
-                    }
-                }
-                _ if self.differ(|run| field.get(structures[run])) => self.keep(|_| Difference {
-                    what: name(),
-                    values: structures.iter().map(|s| phy_value(field, s)).collect(),
+                Kind::Bytes => self.keep(|like| bytes_difference(&what(), &strings, like)),
+                _ => self.keep(|_| Difference {
+                    what: what(),
+                    values: values(),
                 }),
-                _ => {}
             }
         }
     }
@@ -206,6 +209,13 @@ mod tests {
             ]
         );
         assert_eq!(differences(&[&low, &low, &low], &[0; 3], 99), []);
+    }
+
+    #[test]
+    fn texts_as_texts() {
+        let low = request("get-driver-info");
+        let high = request("get-driver-info name=\"csmilab\"");
+        assert_eq!(lines(&low, &high), ["name: \"\" | \"csmilab\""]);
     }
 
     #[test]
