@@ -81,6 +81,7 @@ try "a text over 1,024 bytes" no_mark "high.txt gives no level" "$(levels long "
 try "levels the wrong way round" no_mark "low.txt gives Full and high.txt gives Restricted" "$(levels turned "CSMI=Full;" "CSMI=Restricted;")"
 try "equal levels" marks 0 "warning both texts give Limited, so the runs cannot differ" "$(levels equal "CSMI=Limited;" "CSMI=Limited;")"
 try "a text without entry" marks 0 "warning low.txt has no entry CSMI=, so it gives Limited" "$(levels default "" "CSMI=Full;")"
+try "level texts with line ends of two bytes" marks 0 "high Full, by high.txt: CSMI=Full;" "$(levels two_bytes "CSMI=Limited;\r\n" "CSMI=Full;\r\n")"
 dir=$(levels line_end "CSMI=None;" "A=b;\nCSMI=Full;\n")
 try "an entry behind a line end" marks 1 "warning high.txt has no entry CSMI=, so it gives Limited" "$dir"
 

@@ -49,6 +49,12 @@ pub fn json(marking: &Marking) -> String {
             list(pairs(marking).into_iter().map(|found| pair(marking, found))),
         ),
         ("cut", optional(marking.cut.as_deref())),
+        (
+            "explained",
+            marking
+                .explained
+                .map_or("null".to_string(), |yes| yes.to_string()),
+        ),
         ("mark", mark(marking)),
         ("no_mark", optional(marking.no_mark.as_deref())),
         ("words", string(&verdict(marking))),
