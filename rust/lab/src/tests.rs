@@ -102,6 +102,45 @@ fn marks_are_those_of_the_model() {
     assert!(statuses.iter().all(|count| *count > 0), "{statuses:?}");
 }
 
+/// A session of which only the requests are left that do not get past their header's checks has no mark; one more request, and it has.
+#[test]
+fn sessions_that_ask_nothing() {
+    let mut tried = 0;
+    for seed in 0..CASES {
+        let mut exercise = exercise(seed, &[1, 3]);
+        let medium = exercise.medium();
+        let (opening, state) = model::open(b"CSMI=None;", &exercise.adapter.bytes, &medium);
+        let whole = std::mem::take(&mut exercise.session.bytes);
+        let is_past = |request: &&[u8]| model::denied(&state, &medium, request);
+        let (past, stopped): (Vec<&[u8]>, Vec<&[u8]>) = split(&whole)
+            .requests
+            .iter()
+            .partition(|request| is_past(request));
+        if opening != 0 || past.is_empty() || stopped.is_empty() {
+            continue;
+        }
+        exercise.session.bytes = joined(&stopped);
+        assert_eq!(
+            Marking::of(&exercise, None).unwrap().status(),
+            2,
+            "seed {seed}"
+        );
+        exercise.session.bytes.extend(joined(&past[..1]));
+        assert_ne!(
+            Marking::of(&exercise, None).unwrap().status(),
+            2,
+            "seed {seed}"
+        );
+        tried += 1;
+    }
+    assert!(tried > 20, "{tried}");
+}
+
+fn joined(requests: &[&[u8]]) -> Vec<u8> {
+    let sized = |request: &&[u8]| [&(request.len() as u32).to_le_bytes(), *request].concat();
+    requests.iter().flat_map(sized).collect()
+}
+
 /// Every form of report is made of every exercise, with a difference named wherever there is one.
 #[test]
 fn reports_of_any_exercise() {
