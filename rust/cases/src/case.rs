@@ -11,7 +11,7 @@
 //!     1 0 0
 //! ```
 //!
-//! A case of two runs has `low`, `high`, `low-prints`, `high-prints` and the `mark` in their place.
+//! A case of two runs has `low`, `high`, `low-prints`, `high-prints` and the `codes` in their place.
 
 use labkit::text::{line, Line};
 use labkit::{adapter, session, value, Fault};
@@ -23,8 +23,8 @@ pub struct Case {
     pub session: Vec<u8>,
     /// One run, or the low one and the high one.
     pub runs: Vec<Run>,
-    /// What the mark of two runs says.
-    pub mark: Option<String>,
+    /// How many return codes of two runs differ, and how many requests were denied low.
+    pub codes: Option<String>,
 }
 
 #[derive(Debug, PartialEq, Eq)]
@@ -72,19 +72,19 @@ impl Case {
                 _ => return Err(Fault::new(1, format!("{level} and {prints} go together"))),
             }
         }
-        let mark = take("mark")?.map(|section| section.words()).transpose()?;
+        let codes = take("codes")?.map(|section| section.words()).transpose()?;
         if let Some(left) = sections.first() {
             let reason = format!("a case has no section '{}'", left.head.name);
             return Err(Fault::new(left.head.number, reason));
         }
-        if runs.is_empty() || (mark.is_some() && runs.len() != 2) {
-            return Err(Fault::new(1, "the case has no level, or a mark of one run"));
+        if runs.is_empty() || (codes.is_some() && runs.len() != 2) {
+            return Err(Fault::new(1, "the case has no level, or codes of one run"));
         }
         Ok(Case {
             adapter,
             session,
             runs,
-            mark,
+            codes,
         })
     }
 }
@@ -221,11 +221,11 @@ mod tests {
 
     #[test]
     fn two_runs_and_missing_files() {
-        let text = "low missing\nhigh 41*3\nadapter missing\nsession\nlow-prints\n    open 102\nhigh-prints\n    open 102\nmark 0 of 0 differ, 0 denied low\n";
+        let text = "low missing\nhigh 41*3\nadapter missing\nsession\nlow-prints\n    open 102\nhigh-prints\n    open 102\ncodes 0 of 0 differ, 0 denied low\n";
         let case = parse(text).unwrap();
         assert_eq!((case.adapter, case.runs[0].level.clone()), (None, None));
         assert_eq!(case.runs[1].level, Some(b"AAA".to_vec()));
-        assert_eq!(case.mark.unwrap(), "0 of 0 differ, 0 denied low");
+        assert_eq!(case.codes.unwrap(), "0 of 0 differ, 0 denied low");
     }
 
     #[test]

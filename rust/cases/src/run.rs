@@ -24,8 +24,8 @@ pub fn run(case: &Case, simulator: &Path, scratch: &Path) -> Result<(), String> 
         same(&run.prints, &text).map_err(|reason| format!("{name}{reason}"))?;
         printed.push(text);
     }
-    match (&case.mark, &printed[..]) {
-        (Some(mark), [low, high]) => check_mark(case, mark, low, high),
+    match (&case.codes, &printed[..]) {
+        (Some(codes), [low, high]) => check_codes(case, codes, low, high),
         _ => Ok(()),
     }
 }
@@ -96,13 +96,13 @@ fn same(expected: &str, printed: &str) -> Result<(), String> {
     Err("the ends of lines differ".to_string())
 }
 
-fn check_mark(case: &Case, mark: &str, low: &str, high: &str) -> Result<(), String> {
+fn check_codes(case: &Case, codes: &str, low: &str, high: &str) -> Result<(), String> {
     let run = |text: &str| Transcript::parse(text).map_err(|fault| fault.to_string());
     let compared = compare(&case.session, &run(low)?, &run(high)?)?;
-    let got = compared.mark();
-    match got == format!("mark: {mark}") {
+    let got = compared.codes();
+    match got == format!("codes: {codes}") {
         true => Ok(()),
-        false => Err(format!("expected 'mark: {mark}', got '{got}'")),
+        false => Err(format!("expected 'codes: {codes}', got '{got}'")),
     }
 }
 

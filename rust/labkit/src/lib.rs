@@ -1,9 +1,9 @@
-//! The lab kit: adapter files and sessions as text and back, a reply in words, and two runs side by side.
+//! The lab kit: adapter files and sessions as text and back, a reply in words, and what differs between replies.
 //!
 //! It knows where things stand in the files and buffers of document 01 and of CSMI (T10 04-284r0, "001"), and the names of
 //! their numbers. It answers no request: that is the simulator's part.
 //!
-//! The two forms of text are described in `rust/README.md`.
+//! The two forms of text are described in `docs/LAB.md`.
 
 pub mod adapter;
 pub mod fault;

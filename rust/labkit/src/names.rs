@@ -60,6 +60,9 @@ const CALL_NUMBERS: [(u32, &str); 8] = [
     (107, "state breaks the rules"),
 ];
 
+/// The levels from 0 on.
+pub const LEVELS: [&str; 4] = ["None", "Restricted", "Limited", "Full"];
+
 const LINK_RATES: [(u32, &str); 6] = [
     (0, "unknown"),
     (1, "disabled"),
@@ -114,6 +117,30 @@ pub fn device_words(device_type: u32) -> String {
     }
 }
 
+/// What status and error of a status FIS mean, of those that document 01 names.
+pub fn ata_meaning(status: u8, error: u8) -> Option<&'static str> {
+    match (status, error) {
+        (0x50, 0x00) => Some("success"),
+        (0x51, 0x04) => Some("error, aborted"),
+        (0x51, 0x10) => Some("error, past the last sector"),
+        _ => None,
+    }
+}
+
+/// Status and error of a status FIS in words: `ATA 51h 04h error, aborted`.
+pub fn ata_words(status: u8, error: u8) -> String {
+    let meaning = ata_meaning(status, error).unwrap_or("(no name)");
+    format!("ATA {status:02X}h {error:02X}h {meaning}")
+}
+
+/// A level under its name.
+pub fn level_name(level: u8) -> &'static str {
+    LEVELS
+        .get(usize::from(level))
+        .copied()
+        .unwrap_or("no level")
+}
+
 fn with_name(number: u32, name: Option<&str>) -> String {
     format!("{number} {}", name.unwrap_or("(no name)"))
 }
@@ -133,6 +160,9 @@ mod tests {
         assert_eq!(call_words(104), "104 count or field");
         assert_eq!(rate_words(8), "8 (1.5 Gb/s)");
         assert_eq!(device_words(0x20), "edge expander");
+        assert_eq!(ata_words(0x51, 0x04), "ATA 51h 04h error, aborted");
+        assert_eq!(ata_words(0x41, 0x00), "ATA 41h 00h (no name)");
+        assert_eq!((level_name(3), level_name(4)), ("Full", "no level"));
     }
 
     #[test]

@@ -70,9 +70,17 @@ impl Line {
     }
 }
 
+/// A text as one line that a terminal takes as it is: a question mark for each control character.
+pub fn one_line(text: &str) -> String {
+    let plain = |c: char| if c.is_control() { '?' } else { c };
+    text.chars().map(plain).collect()
+}
+
 /// The lines of a text, without empty ones and comments.
 pub fn lines(text: &str) -> Result<Vec<Line>, Fault> {
     let mut found: Vec<Line> = Vec::new();
+    // some editors begin a text with a byte order mark
+    let text = text.strip_prefix('\u{FEFF}').unwrap_or(text);
     for (i, whole) in text.lines().enumerate() {
         let number = i + 1;
         if !whole.starts_with([' ', '\t']) {
@@ -166,6 +174,12 @@ mod tests {
         assert_eq!((d.line, d.value.as_str(), d.quoted), (4, "e = f", true));
         assert_eq!(row.next_plain().unwrap().value, "b c");
         assert!(row.finish().is_ok());
+    }
+
+    #[test]
+    fn a_byte_order_mark_and_line_ends_of_two_bytes() {
+        let found = lines("\u{FEFF}row a=1\r\nend\r\n").unwrap();
+        assert_eq!(found, lines("row a=1\nend\n").unwrap());
     }
 
     #[test]

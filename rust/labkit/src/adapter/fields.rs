@@ -40,7 +40,7 @@ pub const PHY: [Field; 36] = [
     code("attached-target", ATTACHED_TARGET),
     bytes("attached-restricted2", 40, 8),
     bytes("attached-address", ATTACHED_ADDRESS, 8),
-    byte("attached-identifier", 56),
+    byte("attached-identifier", ATTACHED_IDENTIFIER),
     byte("attached-class", 57),
     bytes("attached-reserved", 58, 6),
     number("invalid-dword", 64, 4),
@@ -62,6 +62,7 @@ pub const MAXIMUM: usize = 31;
 pub const ATTACHED_TYPE: usize = 36;
 pub const ATTACHED_TARGET: usize = 39;
 pub const ATTACHED_ADDRESS: usize = 48;
+pub const ATTACHED_IDENTIFIER: usize = 56;
 pub const SIGNATURE: usize = 80;
 pub const HELD: usize = 100;
 pub const LOWEST: usize = 102;

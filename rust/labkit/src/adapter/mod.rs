@@ -5,17 +5,21 @@ mod describe;
 mod fields;
 mod parse;
 mod phy;
+mod warnings;
 
 pub use describe::describe;
-pub use fields::{DRIVER, ROW};
+pub use fields::{DRIVER, PHY, ROW};
 pub use parse::parse;
-pub use phy::entity_words;
+pub use phy::{entity_words, phy_value};
+pub use warnings::warnings;
 
 pub const BLOCK: usize = 512;
 /// The bytes of a row, and the rows of a block.
 const ROW_BYTES: usize = 20;
 const ROWS_IN_BLOCK: usize = 25;
+/// The most phys of a file, and of one that the program opens.
 pub const MOST_PHYS: usize = 32;
+pub const PROGRAM_PHYS: usize = 7;
 pub const MOST_ROWS: usize = 64;
 
 /// Where the driver info stands in block 0.

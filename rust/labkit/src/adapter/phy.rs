@@ -126,6 +126,25 @@ fn attached(block: &[u8]) -> &'static str {
     }
 }
 
+/// The fields of a phy that are link rates.
+const RATES: [&str; 7] = [
+    "negotiated",
+    "hardware-minimum",
+    "programmed-minimum",
+    "programmed-maximum",
+    "hardware-maximum",
+    "lowest",
+    "highest",
+];
+
+/// A field's value, a link rate with its name.
+pub fn phy_value(field: &Field, structure: &[u8]) -> String {
+    match RATES.contains(&field.name) {
+        true => names::rate_words(field.get(structure)),
+        false => field.show(structure),
+    }
+}
+
 /// An entity of a code 20 reply in words.
 pub fn entity_words(entity: &[u8]) -> String {
     let rate = |at: usize| names::rate_words(entity[at].into());

@@ -1,4 +1,5 @@
-//! Two runs of one session side by side, request by request, and the mark.
+//! The return codes of two runs of one session side by side, as the program printed them. They are not the mark, which goes by
+//! whole replies and by what the runs left: that is `lab`'s.
 
 use super::transcript::{Answer, Transcript};
 use super::words::request_words;
@@ -100,17 +101,17 @@ impl Comparison {
         self.rows.iter().filter(denied).count()
     }
 
-    /// How many requests differ, and how many were denied in the low run.
-    pub fn mark(&self) -> String {
+    /// How many return codes differ, and how many requests were denied in the low run.
+    pub fn codes(&self) -> String {
         format!(
-            "mark: {} of {} differ, {} denied low",
+            "codes: {} of {} differ, {} denied low",
             self.differing(),
             self.rows.len(),
             self.denied_low()
         )
     }
 
-    /// The table, the openings that were refused, and the mark in the last line.
+    /// The table, the openings that were refused, and how many differ in the last line.
     pub fn table(&self) -> String {
         let mut cells = vec![["no", "request", "low", "high", ""].map(String::from)];
         for (i, row) in self.rows.iter().enumerate() {
@@ -126,7 +127,7 @@ impl Comparison {
             cells.push(["", "a last request, cut", "", "", ""].map(String::from));
         }
         let mut text = columns(&cells);
-        for line in self.openings.iter().chain([&self.mark()]) {
+        for line in self.openings.iter().chain([&self.codes()]) {
             text.push_str(line);
             text.push('\n');
         }
@@ -169,7 +170,7 @@ mod tests {
         assert!(lines[2].contains("2002 phy does not exist"));
         assert!(lines[2].ends_with("differs") && !lines[1].ends_with("differs"));
         assert_eq!(lines[4].trim(), "a last request, cut");
-        assert_eq!(lines[5], "mark: 1 of 3 differ, 1 denied low");
+        assert_eq!(lines[5], "codes: 1 of 3 differ, 1 denied low");
     }
 
     #[test]
@@ -177,12 +178,12 @@ mod tests {
         let session = parse("get-phy-info").unwrap();
         let opened = run("request call code\n1 0 0\n");
         let one = compare(&session, &run("open 101\n"), &opened).unwrap();
-        assert_eq!(one.mark(), "mark: 1 of 1 differ, 0 denied low");
+        assert_eq!(one.codes(), "codes: 1 of 1 differ, 0 denied low");
         assert!(one
             .table()
             .contains("low: opening refused, 101 bad level text\n"));
         let both = compare(&session, &run("open 104\n"), &run("open 104\n")).unwrap();
-        assert_eq!(both.mark(), "mark: 0 of 1 differ, 0 denied low");
+        assert_eq!(both.codes(), "codes: 0 of 1 differ, 0 denied low");
     }
 
     #[test]

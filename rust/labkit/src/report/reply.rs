@@ -61,13 +61,14 @@ fn meaning(field: &Field, got: &[u8]) -> String {
     let shown = field.show(got);
     let part = &got[field.at..];
     let words = match (field.name, part) {
-        ("connection", [0, ..]) => "open accept",
-        ("status-fis", [_, _, 0x50, 0, ..]) => "success",
-        ("status-fis", [_, _, 0x51, 0x04, ..]) => "error, aborted",
-        ("status-fis", [_, _, 0x51, 0x10, ..]) => "error, past the last sector",
-        _ => return shown,
+        ("connection", [0, ..]) => Some("open accept"),
+        ("status-fis", [_, _, status, error, ..]) => names::ata_meaning(*status, *error),
+        _ => None,
     };
-    format!("{shown} ({words})")
+    match words {
+        Some(words) => format!("{shown} ({words})"),
+        None => shown,
+    }
 }
 
 fn row(name: &str, value: &str, changed: bool) -> String {

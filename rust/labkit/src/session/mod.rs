@@ -7,7 +7,7 @@ mod parse;
 mod request;
 
 pub use describe::{describe, describe_request};
-pub use layout::{layout, Layout, RETURN_CODE, STP_PASSTHRU};
+pub use layout::{layout, Layout, HEADER_FIELDS, RETURN_CODE, STP_PASSTHRU};
 pub use parse::parse;
 
 /// The most bytes of a request.

@@ -1,0 +1,95 @@
+//! Files read whole, with faults of one line that name the file.
+
+use labkit::Fault;
+use std::fs;
+use std::path::Path;
+use std::time::{Duration, SystemTime};
+
+/// Bytes, and the name of the file that they come from.
+pub struct Part {
+    pub from: String,
+    pub bytes: Vec<u8>,
+    /// What is to be said about it.
+    pub warning: Option<String>,
+}
+
+/// Files that were written within this time are taken for copied together: which is newer says nothing.
+const TOGETHER: Duration = Duration::from_secs(2);
+
+/// A path as one line.
+pub fn shown(path: &Path) -> String {
+    labkit::text::one_line(&path.to_string_lossy())
+}
+
+pub fn read(path: &Path) -> Result<Vec<u8>, String> {
+    let cannot = |error| format!("{} cannot be read: {error}", shown(path));
+    // a pipe or a device might never end
+    if !fs::metadata(path).map_err(cannot)?.is_file() {
+        return Err(format!("{} is not a file", shown(path)));
+    }
+    fs::read(path).map_err(cannot)
+}
+
+/// The bytes that a description makes, or the binary where there is no description.
+pub fn part(
+    folder: &Path,
+    text: &str,
+    binary: &str,
+    parse: impl Fn(&str) -> Result<Vec<u8>, Fault>,
+) -> Result<Part, String> {
+    let (described, made) = (folder.join(text), folder.join(binary));
+    if described.exists() {
+        let bytes = described_bytes(&described, parse)?;
+        let warning = beside(&described, &made, &bytes)?;
+        let from = text.to_string();
+        return Ok(Part {
+            from,
+            bytes,
+            warning,
+        });
+    }
+    if !made.exists() {
+        let folder = shown(folder);
+        return Err(format!("{folder} has neither {text} nor {binary}"));
+    }
+    Ok(Part {
+        from: binary.to_string(),
+        bytes: read(&made)?,
+        warning: None,
+    })
+}
+
+fn described_bytes(
+    path: &Path,
+    parse: impl Fn(&str) -> Result<Vec<u8>, Fault>,
+) -> Result<Vec<u8>, String> {
+    let words = String::from_utf8(read(path)?)
+        .map_err(|_| format!("{} is not a text in UTF-8; save it as one", shown(path)))?;
+    parse(&words).map_err(|fault| format!("{}: {fault}", shown(path)))
+}
+
+/// What is to be said of a binary beside a description that makes other bytes. One that was put there later is refused: who did that
+/// means it to run.
+fn beside(described: &Path, made: &Path, bytes: &[u8]) -> Result<Option<String>, String> {
+    if !made.exists() || read(made).is_ok_and(|old| old == bytes) {
+        return Ok(None);
+    }
+    let name = |path: &Path| shown(Path::new(path.file_name().unwrap_or_default()));
+    let (text, binary) = (name(described), name(made));
+    let later = time(described).checked_add(TOGETHER);
+    if later.is_some_and(|later| time(made) > later) {
+        return Err(format!(
+            "{} is newer than {text} and is not what it describes; remove the one that is not to run",
+            shown(made)
+        ));
+    }
+    Ok(Some(format!(
+        "{text} is run, and {binary} beside it, which is not what it describes, is not"
+    )))
+}
+
+/// When a file was written; long ago if nobody knows.
+fn time(path: &Path) -> SystemTime {
+    let written = fs::metadata(path).and_then(|about| about.modified());
+    written.unwrap_or(SystemTime::UNIX_EPOCH)
+}

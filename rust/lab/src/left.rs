@@ -1,0 +1,183 @@
+//! What runs left: every field of the states but the level, and every sector of the disks, where they differ.
+
+use crate::state::*;
+use labkit::adapter::{phy_value, DRIVER as DRIVER_FIELDS, PHY, ROW};
+use labkit::field::Field;
+use labkit::report::{bytes_differ, values_differ, Difference};
+
+#[derive(Debug, Clone, Copy, PartialEq, Eq)]
+pub enum Group {
+    Tables,
+    Counters,
+    Rates,
+    Sectors,
+}
+
+pub const GROUPS: [Group; 4] = [Group::Tables, Group::Counters, Group::Rates, Group::Sectors];
+
+impl Group {
+    pub fn name(self) -> &'static str {
+        match self {
+            Group::Tables => "tables",
+            Group::Counters => "counters",
+            Group::Rates => "programmed rates",
+            Group::Sectors => "sectors",
+        }
+    }
+
+    /// Its name for scripts.
+    pub fn key(self) -> &'static str {
+        match self {
+            Group::Rates => "rates",
+            _ => self.name(),
+        }
+    }
+
+    /// The group of a phy's field.
+    fn of(field: &Field) -> Group {
+        match field.name {
+            "programmed-minimum" | "programmed-maximum" => Group::Rates,
+            name if COUNTERS.contains(&name) => Group::Counters,
+            _ => Group::Tables,
+        }
+    }
+}
+
+pub const COUNTERS: [&str; 4] = [
+    "invalid-dword",
+    "running-disparity",
+    "loss-of-sync",
+    "reset-problem",
+];
+
+/// A value that runs left differently.
+pub struct Left {
+    pub group: Group,
+    pub difference: Difference,
+}
+
+/// Everything in which states (but for their levels) and media differ.
+pub fn left(states: &[&[u8]], media: &[&[u8]]) -> Vec<Left> {
+    let mut found = Vec::new();
+    let table = |difference| Left {
+        group: Group::Tables,
+        difference,
+    };
+    for (name, at) in [("number of phys", PHY_COUNT), ("number of rows", ROW_COUNT)] {
+        let counts = parts(states, at, 1);
+        found.extend(values_differ(name.to_string(), &counts, |s| s[0].to_string()).map(table));
+    }
+    let driver = parts(states, DRIVER, DRIVER_SIZE);
+    found.extend(
+        fields("driver ", &DRIVER_FIELDS, &driver).map(|(_, difference)| table(difference)),
+    );
+    for n in 0..PHYS {
+        let phys = parts(states, phy_at(n), PHY_SIZE);
+        let of_phy = |(field, difference)| Left {
+            group: Group::of(field),
+            difference,
+        };
+        found.extend(fields(&format!("phy {n} "), &PHY, &phys).map(of_phy));
+    }
+    for i in 0..ROWS {
+        let rows = parts(states, row_at(i), ROW_SIZE);
+        found.extend(
+            fields(&format!("row {i} "), &ROW, &rows).map(|(_, difference)| table(difference)),
+        );
+    }
+    let sector = |(_, difference)| Left {
+        group: Group::Sectors,
+        difference,
+    };
+    found.extend(sectors(media).into_iter().map(sector));
+    found
+}
+
+/// The fields of a table in which structures differ.
+fn fields<'a>(
+    prefix: &'a str,
+    table: &'a [Field],
+    structures: &'a [&[u8]],
+) -> impl Iterator<Item = (&'a Field, Difference)> {
+    table.iter().filter_map(move |field| {
+        let name = format!("{prefix}{}", field.name);
+        let difference = values_differ(name, structures, |s| phy_value(field, s))?;
+        Some((field, difference))
+    })
+}
+
+/// The sectors in which media differ, with their places.
+pub fn sectors(media: &[&[u8]]) -> Vec<(usize, Difference)> {
+    let length = media.iter().map(|medium| medium.len()).max().unwrap_or(0);
+    let mut found = Vec::new();
+    for at in (0..length).step_by(SECTOR) {
+        let name = format!("phy {} LBA {}", at / DISK, at % DISK / SECTOR);
+        let differ = bytes_differ(&name, &parts(media, at, SECTOR));
+        found.extend(differ.map(|difference| (at, difference)));
+    }
+    found
+}
+
+#[cfg(test)]
+mod tests {
+    use super::*;
+    use library::STATE_SIZE;
+
+    fn groups(found: &[Left]) -> Vec<Group> {
+        found.iter().map(|left| left.group).collect()
+    }
+
+    /// Whatever byte of a state differs, it is shown; the level is not.
+    #[test]
+    fn every_byte_of_the_state_but_the_level() {
+        let state = vec![0x11; STATE_SIZE];
+        for at in 0..STATE_SIZE {
+            let mut other = state.clone();
+            other[at] = 0x2F;
+            let found = left(&[&state, &other], &[]);
+            assert_eq!(found.is_empty(), at == LEVEL, "byte {at}");
+        }
+    }
+
+    #[test]
+    fn counters_rates_and_tables() {
+        let state = vec![0; STATE_SIZE];
+        let mut other = state.clone();
+        (
+            other[phy_at(1) + 64],
+            other[phy_at(1) + 31],
+            other[phy_at(1) + 29],
+        ) = (7, 0x90, 1);
+        let found = left(&[&state, &other], &[]);
+        assert_eq!(
+            groups(&found),
+            [Group::Tables, Group::Rates, Group::Counters]
+        );
+        let shown: Vec<&str> = found
+            .iter()
+            .map(|left| left.difference.what.as_str())
+            .collect();
+        assert_eq!(
+            shown,
+            [
+                "phy 1 negotiated",
+                "phy 1 programmed-maximum",
+                "phy 1 invalid-dword"
+            ]
+        );
+        assert_eq!(found[1].difference.values, ["0 (unknown)", "9 (3.0 Gb/s)"]);
+    }
+
+    #[test]
+    fn every_sector() {
+        let medium = vec![0; 2 * DISK];
+        for at in (0..medium.len()).step_by(300) {
+            let mut other = medium.clone();
+            other[at] = 1;
+            let found = sectors(&[&medium, &medium, &other]);
+            assert_eq!(found.len(), 1);
+            let place = format!("phy {} LBA {}, 1 byte", at / DISK, at % DISK / SECTOR);
+            assert_eq!(found[0].1.what, place);
+        }
+    }
+}

@@ -1,0 +1,163 @@
+//! An exercise run under its levels, request by request through the library, and what differs between the runs.
+
+use crate::beside::Beside;
+use crate::exercise::Exercise;
+use crate::left::{self, Group, Left};
+use crate::level;
+use crate::progress::Progress;
+use crate::replies::Replies;
+use crate::row::Row;
+use crate::run::Run;
+use crate::verdict;
+use labkit::adapter::{warnings as adapter_warnings, PROGRAM_PHYS};
+use labkit::session::{control_code, split, Session, HEADER, STP_PASSTHRU};
+use std::collections::HashSet;
+use std::path::Path;
+
+pub struct Marking<'a> {
+    pub exercise: &'a Exercise,
+    pub requests: Vec<&'a [u8]>,
+    /// The runs as they ended.
+    pub runs: Vec<Run>,
+    pub rows: Vec<Row>,
+    pub left: Vec<Left>,
+    /// Where the session is cut.
+    pub cut: Option<String>,
+    pub warnings: Vec<String>,
+    /// Whether the higher run without the requests denied in the lower one was the lower run, where that was tried.
+    pub explained: Option<bool>,
+    /// Why there is no mark.
+    pub no_mark: Option<String>,
+}
+
+impl<'a> Marking<'a> {
+    /// Runs an exercise; the replies go to a folder if one is named.
+    pub fn of(exercise: &'a Exercise, folder: Option<&Path>) -> Result<Marking<'a>, String> {
+        let session = split(&exercise.session.bytes);
+        let medium = exercise.medium();
+        let open = |run, text: &[u8]| Run::open(run, text, &exercise.adapter.bytes, &medium);
+        let runs: Vec<Run> = exercise
+            .texts
+            .iter()
+            .map(|text| open(text.run, &text.bytes))
+            .collect();
+        let no_mark = verdict::before(exercise, &runs, &session);
+        let mut marking = Marking {
+            exercise,
+            cut: where_cut(&session, exercise),
+            warnings: warnings(exercise, &runs, &session),
+            requests: session.requests,
+            runs,
+            rows: Vec::new(),
+            left: Vec::new(),
+            explained: None,
+            no_mark,
+        };
+        if marking.no_mark.is_none() {
+            let two = exercise.texts.len() == 2;
+            let without = two.then(|| open("high", &exercise.texts[1].bytes));
+            let beside = Beside::new(open("None", b"CSMI=None;"), without);
+            let replies = folder.map(|folder| Replies::create(folder, &marking.runs));
+            marking.run(beside, replies.transpose()?)?;
+        }
+        Ok(marking)
+    }
+
+    /// Sends every request to every run.
+    fn run(&mut self, mut beside: Beside, mut replies: Option<Replies>) -> Result<(), String> {
+        let mut progress = Progress::new(self.requests.len());
+        for (i, request) in self.requests.iter().enumerate() {
+            self.runs.iter_mut().for_each(|run| run.handle(request));
+            let row = Row::of(&self.runs);
+            beside.handle(request, &row, &self.runs[0]);
+            if let Some(replies) = &mut replies {
+                replies.add(request, &self.runs)?;
+            }
+            self.rows.push(row);
+            progress.at(i + 1);
+        }
+        progress.end();
+        self.left = self.left_behind();
+        self.explained = beside.explained(&self.runs[0]);
+        self.no_mark = verdict::after(beside.past_header(), self.explained);
+        replies.map_or(Ok(()), Replies::end)
+    }
+
+    fn left_behind(&self) -> Vec<Left> {
+        let states: Vec<&[u8]> = self.runs.iter().map(|run| run.state.as_slice()).collect();
+        let media: Vec<&[u8]> = self.runs.iter().map(|run| run.medium.as_slice()).collect();
+        left::left(&states, &media)
+    }
+
+    pub fn differing(&self) -> usize {
+        self.rows.iter().filter(|row| row.differs()).count()
+    }
+
+    /// How many requests a run denied.
+    pub fn denied(&self, run: usize) -> usize {
+        self.rows
+            .iter()
+            .filter(|row| row.answers[run].is_denied())
+            .count()
+    }
+
+    /// How many replies differ between two runs.
+    pub fn between(&self, one: usize, other: usize) -> usize {
+        let differs = |row: &&Row| row.differs_between(one, other);
+        self.rows.iter().filter(differs).count()
+    }
+
+    /// How many values, and how many sectors, differ at the end.
+    pub fn left_counts(&self) -> (usize, usize) {
+        let sectors = self
+            .left
+            .iter()
+            .filter(|left| left.group == Group::Sectors)
+            .count();
+        (self.left.len() - sectors, sectors)
+    }
+
+    /// 0 no difference, 1 differences, 2 no mark.
+    pub fn status(&self) -> u8 {
+        match (&self.no_mark, self.differing() + self.left.len()) {
+            (Some(_), _) => 2,
+            (None, 0) => 0,
+            (None, _) => 1,
+        }
+    }
+}
+
+fn where_cut(session: &Session, exercise: &Exercise) -> Option<String> {
+    let before = exercise.session.bytes.len() - session.tail.len();
+    (!session.tail.is_empty()).then(|| verdict::cut(session, before))
+}
+
+fn warnings(exercise: &Exercise, runs: &[Run], session: &Session) -> Vec<String> {
+    let mut found: Vec<String> = exercise.warnings().cloned().collect();
+    if runs.iter().all(|run| run.opening == 0) {
+        found.extend(level::warnings(&exercise.texts, runs));
+    }
+    let phys = exercise.phys();
+    if phys > PROGRAM_PHYS {
+        found.push(format!(
+            "{phys} phys: the program simulator takes up to {PROGRAM_PHYS} and refuses this adapter with 104; the library, which runs here, takes 32"
+        ));
+    }
+    let asked = addresses(session);
+    found.extend(adapter_warnings(&exercise.adapter.bytes, |address| {
+        asked.contains(address)
+    }));
+    found
+}
+
+/// The SAS addresses that the session sends ATA commands to.
+fn addresses<'a>(session: &Session<'a>) -> HashSet<&'a [u8]> {
+    let passed = |request: &&&[u8]| control_code(request) == Some(STP_PASSTHRU);
+    let destination = |request: &&'a [u8]| request.get(HEADER + 4..HEADER + 12);
+    session
+        .requests
+        .iter()
+        .filter(passed)
+        .filter_map(destination)
+        .collect()
+}

@@ -1,0 +1,91 @@
+//! The requests and each run's replies written out, in the form of a session, and beside them the numbers as the program prints
+//! them. `labkit reply` and `labkit session-text` read the first, `labkit compare` the second.
+
+use crate::files::shown;
+use crate::run::Run;
+use std::fs::{self, File};
+use std::io::{BufWriter, Write};
+use std::path::{Path, PathBuf};
+
+pub struct Replies {
+    requests: Out,
+    /// The replies and the numbers of each run.
+    runs: Vec<(Out, Out)>,
+    written: usize,
+}
+
+struct Out {
+    path: PathBuf,
+    file: BufWriter<File>,
+}
+
+impl Replies {
+    pub fn create(folder: &Path, runs: &[Run]) -> Result<Replies, String> {
+        fs::create_dir_all(folder).map_err(|error| fault(folder, error))?;
+        let mut opened = Vec::new();
+        for run in runs {
+            let name = run.name.to_lowercase();
+            let replies = Out::create(folder.join(format!("{name}.replies")))?;
+            let mut codes = Out::create(folder.join(format!("{name}.codes")))?;
+            codes.write(b"request call code\n")?;
+            opened.push((replies, codes));
+        }
+        Ok(Replies {
+            requests: Out::create(folder.join("requests"))?,
+            runs: opened,
+            written: 0,
+        })
+    }
+
+    /// Adds a request and the last replies of the runs.
+    pub fn add(&mut self, request: &[u8], runs: &[Run]) -> Result<(), String> {
+        self.written += 1;
+        self.requests.sized(request)?;
+        for ((replies, codes), run) in self.runs.iter_mut().zip(runs) {
+            replies.sized(&run.reply)?;
+            let code = run
+                .answer()
+                .code
+                .map_or("-".to_string(), |code| code.to_string());
+            codes.write(format!("{} {} {code}\n", self.written, run.call).as_bytes())?;
+        }
+        Ok(())
+    }
+
+    pub fn end(self) -> Result<(), String> {
+        self.requests.end()?;
+        for (replies, codes) in self.runs {
+            replies.end()?;
+            codes.end()?;
+        }
+        Ok(())
+    }
+}
+
+impl Out {
+    fn create(path: PathBuf) -> Result<Out, String> {
+        let file = File::create(&path).map_err(|error| fault(&path, error))?;
+        let file = BufWriter::new(file);
+        Ok(Out { path, file })
+    }
+
+    fn write(&mut self, bytes: &[u8]) -> Result<(), String> {
+        self.file
+            .write_all(bytes)
+            .map_err(|error| fault(&self.path, error))
+    }
+
+    /// A length, then so many bytes.
+    fn sized(&mut self, bytes: &[u8]) -> Result<(), String> {
+        self.write(&(bytes.len() as u32).to_le_bytes())?;
+        self.write(bytes)
+    }
+
+    fn end(mut self) -> Result<(), String> {
+        self.file.flush().map_err(|error| fault(&self.path, error))
+    }
+}
+
+fn fault(path: &Path, error: std::io::Error) -> String {
+    format!("{} cannot be written: {error}", shown(path))
+}

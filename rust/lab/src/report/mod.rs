@@ -1,0 +1,151 @@
+//! A marking as a person or a script reads it.
+
+mod csv;
+mod escape;
+mod html;
+mod json;
+mod text;
+
+pub use csv::csv;
+pub use html::html;
+pub use json::json;
+pub use text::text;
+
+use crate::left::Group;
+use crate::level;
+use crate::marking::Marking;
+use labkit::names::level_name;
+
+/// The mark in one line, or why there is none.
+fn verdict(marking: &Marking) -> String {
+    if let Some(reason) = &marking.no_mark {
+        return format!("no mark: {reason}");
+    }
+    let (differ, all) = (marking.differing(), marking.rows.len());
+    let denied = match &marking.runs[..] {
+        [_, _] => format!("{} denied low", marking.denied(0)),
+        runs => {
+            let each = |i: usize| format!("{} {}", marking.denied(i), runs[i].name);
+            format!(
+                "denied: {}",
+                (0..runs.len()).map(each).collect::<Vec<_>>().join(", ")
+            )
+        }
+    };
+    let up_to = match marking.cut {
+        Some(_) => " up to the cut",
+        None => "",
+    };
+    format!(
+        "mark: {differ} of {all}{up_to} differ, {denied}; {}",
+        left_words(marking)
+    )
+}
+
+/// How much the runs left differently.
+fn left_words(marking: &Marking) -> String {
+    match marking.left_counts() {
+        (0, 0) => "what they left is the same".to_string(),
+        (values, sectors) => {
+            format!(
+                "{} and {} left differ",
+                counted(values, "value"),
+                counted(sectors, "sector")
+            )
+        }
+    }
+}
+
+fn counted(count: usize, what: &str) -> String {
+    match count {
+        1 => format!("1 {what}"),
+        _ => format!("{count} {what}s"),
+    }
+}
+
+/// The line that says that the denied requests are the whole difference, where that was tried.
+fn explained(marking: &Marking) -> Option<String> {
+    let denied = marking.denied(0);
+    if marking.no_mark.is_some() || marking.explained != Some(true) || denied == 0 {
+        return None;
+    }
+    Some(format!(
+        "tried: without the {} denied low, the high run gets the replies of the low run and leaves what it left",
+        counted(denied, "request")
+    ))
+}
+
+/// Between which two levels how many replies differ, where all four run.
+fn pairs(marking: &Marking) -> Vec<(usize, usize, usize)> {
+    let runs = marking.runs.len();
+    if runs < 3 || marking.no_mark.is_some() {
+        return Vec::new();
+    }
+    let pairs = (0..runs).flat_map(|one| (one + 1..runs).map(move |other| (one, other)));
+    pairs
+        .map(|(one, other)| (one, other, marking.between(one, other)))
+        .collect()
+}
+
+/// A run's level and its text: `Restricted, by low.txt: CSMI=Restricted;`.
+fn level_words(marking: &Marking, run: usize) -> String {
+    let (text, run) = (&marking.exercise.texts[run], &marking.runs[run]);
+    let shown = level::shown(&text.bytes);
+    match run.opening {
+        0 => format!("{}, by {}: {shown}", level_name(run.level()), text.from),
+        _ => format!("not opened, by {}: {shown}", text.from),
+    }
+}
+
+/// What the exercise consists of, as pairs of a name and words.
+fn head(marking: &Marking) -> Vec<(String, String)> {
+    let exercise = marking.exercise;
+    let mut lines = vec![
+        ("exercise".to_string(), exercise.name.clone()),
+        (
+            "adapter".to_string(),
+            format!(
+                "{}, {}",
+                exercise.adapter.from,
+                counted(exercise.phys(), "phy")
+            ),
+        ),
+        (
+            "session".to_string(),
+            format!(
+                "{}, {}",
+                exercise.session.from,
+                counted(marking.requests.len(), "request")
+            ),
+        ),
+    ];
+    if let Some(disks) = &exercise.disks {
+        lines.push((
+            "disks".to_string(),
+            format!("{}, {} bytes", disks.from, disks.bytes.len()),
+        ));
+    }
+    for (i, run) in marking.runs.iter().enumerate() {
+        lines.push((run.name.to_string(), level_words(marking, i)));
+    }
+    lines.extend(
+        marking
+            .warnings
+            .iter()
+            .map(|line| ("warning".to_string(), line.clone())),
+    );
+    lines
+}
+
+/// What the runs left of a group: nothing that differs, or lines.
+fn group<'m>(
+    marking: &'m Marking,
+    group: Group,
+) -> impl Iterator<Item = &'m labkit::report::Difference> {
+    let of_it = move |left: &&crate::left::Left| left.group == group;
+    marking
+        .left
+        .iter()
+        .filter(of_it)
+        .map(|left| &left.difference)
+}

@@ -1,0 +1,118 @@
+//! Whether there is a mark: why an exercise gets none, and where a session is cut. All of it goes by what the library answers.
+
+use crate::exercise::Exercise;
+use crate::run::Run;
+use crate::state::DISK;
+use labkit::names::{call_words, level_name};
+use labkit::session::{Session, MOST_REQUEST};
+
+const BAD_TEXT: u32 = 101;
+const MEDIUM_LENGTH: u32 = 106;
+
+const NOTHING_ASKED: &str =
+    "no request gets past its header's checks, so no level was asked for anything";
+const NOT_AS_PROVED: &str = "the high run without the requests denied low is not the low run, as it is proved to be; make the library anew: rt staticlib exports";
+
+/// Why no request is run at all; none if the runs may begin.
+pub fn before(exercise: &Exercise, runs: &[Run], session: &Session) -> Option<String> {
+    let refused = exercise
+        .texts
+        .iter()
+        .zip(runs)
+        .find(|(_, run)| run.opening != 0);
+    if let Some((text, run)) = refused {
+        return Some(refusal(exercise, &text.from, run.opening));
+    }
+    if let [low, high] = runs {
+        if low.level() > high.level() {
+            return Some(format!(
+                "low.txt gives {} and high.txt gives {}; the lower level comes first, so exchange the texts",
+                level_name(low.level()),
+                level_name(high.level())
+            ));
+        }
+    }
+    match (session.requests.is_empty(), session.tail.is_empty()) {
+        (true, true) => Some(format!("the session of {} is empty", exercise.session.from)),
+        (true, false) => Some(cut(session, 0)),
+        _ => None,
+    }
+}
+
+/// Why runs that have ended give no mark, by what the runs beside them say.
+pub fn after(past_header: bool, explained: Option<bool>) -> Option<String> {
+    match (past_header, explained) {
+        (false, _) => Some(NOTHING_ASKED.to_string()),
+        (true, Some(false)) => Some(NOT_AS_PROVED.to_string()),
+        (true, _) => None,
+    }
+}
+
+/// Why an opening was refused, in words.
+fn refusal(exercise: &Exercise, text: &str, number: u32) -> String {
+    let words = call_words(number);
+    match number {
+        BAD_TEXT => format!(
+            "{text} gives no level: {words}; an entry is exactly CSMI=None; CSMI=Restricted; CSMI=Limited; or CSMI=Full; and stands once"
+        ),
+        MEDIUM_LENGTH => format!(
+            "the opening refuses the disks: {words}; {} bytes are given, and {} phys have {DISK} bytes each",
+            exercise.medium().len(),
+            exercise.phys()
+        ),
+        _ => format!("the opening refuses the adapter of {}: {words}", exercise.adapter.from),
+    }
+}
+
+/// Where a session is cut: behind so many requests, of which the bytes before the tail consist.
+pub fn cut(session: &Session, before: usize) -> String {
+    let number = session.requests.len() + 1;
+    let tail = session.tail;
+    let why = match tail.split_first_chunk::<4>() {
+        None => format!("of its length of 4 bytes there are {}", tail.len()),
+        Some((length, rest)) => match u32::from_le_bytes(*length) as usize {
+            length if length > MOST_REQUEST => {
+                format!("its length says {length}, over {MOST_REQUEST}")
+            }
+            length => format!(
+                "its length says {length} bytes, and there are {}",
+                rest.len()
+            ),
+        },
+    };
+    format!("the session is cut at request {number}, byte {before}: {why}")
+}
+
+#[cfg(test)]
+mod tests {
+    use super::*;
+    use labkit::session::split;
+
+    #[test]
+    fn runs_that_give_no_mark() {
+        let begins =
+            |verdict: Option<String>, words: &str| verdict.is_some_and(|v| v.starts_with(words));
+        assert!(begins(after(false, Some(true)), "no request gets past"));
+        assert!(begins(after(false, None), "no request gets past"));
+        assert!(begins(after(true, Some(false)), "the high run without"));
+        assert_eq!(after(true, Some(true)), None);
+        assert_eq!(after(true, None), None);
+    }
+
+    #[test]
+    fn where_a_session_is_cut() {
+        let said = |bytes: &[u8]| cut(&split(bytes), 0);
+        assert_eq!(
+            said(&[1, 0]),
+            "the session is cut at request 1, byte 0: of its length of 4 bytes there are 2"
+        );
+        assert_eq!(
+            said(&[5, 0, 0, 0, 9]),
+            "the session is cut at request 1, byte 0: its length says 5 bytes, and there are 1"
+        );
+        assert_eq!(
+            said(&[1, 128, 0, 0, 9]),
+            "the session is cut at request 1, byte 0: its length says 32769, over 32768"
+        );
+    }
+}

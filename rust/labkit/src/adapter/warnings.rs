@@ -1,0 +1,103 @@
+//! What document 01 leaves free and real consoles read all the same: a file that an opening accepts and that makes them behave
+//! oddly. One line for each.
+
+use super::fields::*;
+use super::{BLOCK, MOST_PHYS};
+
+/// An end device, as Attached and Identify say it.
+const END_DEVICE: u8 = 0x10;
+/// Bits of the target protocols.
+const SATA: u8 = 0x01;
+const STP: u8 = 0x04;
+const SSP: u8 = 0x08;
+
+/// The warnings about an adapter file; `asked_ata` says whether the console sends ATA commands to an attached SAS address.
+pub fn warnings(file: &[u8], asked_ata: impl Fn(&[u8]) -> bool) -> Vec<String> {
+    let phys = file.first().map_or(0, |count| usize::from(*count));
+    let blocks = file.chunks_exact(BLOCK).skip(1);
+    let mut found = Vec::new();
+    for (n, block) in blocks.take(phys.min(MOST_PHYS)).enumerate() {
+        let attached = &block[ATTACHED_ADDRESS..ATTACHED_ADDRESS + 8];
+        for line in about(block, asked_ata(attached)).into_iter().flatten() {
+            found.push(format!("phy {n}: {line}"));
+        }
+    }
+    found
+}
+
+fn about(block: &[u8], asked_ata: bool) -> [Option<String>; 3] {
+    [
+        identify_type(block),
+        attached_identifier(block),
+        no_sata_bit(block, asked_ata),
+    ]
+}
+
+fn identify_type(block: &[u8]) -> Option<String> {
+    (block[0] == 0).then(|| {
+        "its own identify device type is 0, no device: consoles skip such a phy; 10h is an end device"
+            .to_string()
+    })
+}
+
+fn attached_identifier(block: &[u8]) -> Option<String> {
+    let identifier = block[ATTACHED_IDENTIFIER];
+    (identifier != 0).then(|| {
+        format!("the attached phy identifier is {identifier}: consoles that go by it ask another phy or port; a disk has 0")
+    })
+}
+
+/// An end device is taken for a disk if it is no plain SSP target, or if the console sends ATA commands to it.
+fn no_sata_bit(block: &[u8], asked_ata: bool) -> Option<String> {
+    let protocols = block[ATTACHED_TARGET];
+    let end_device = block[ATTACHED_TYPE] == END_DEVICE;
+    let plain_ssp = protocols & (SSP | STP) == SSP;
+    let like_a_disk = end_device && (!plain_ssp || asked_ata);
+    (like_a_disk && protocols & SATA == 0).then(|| {
+        format!("what is attached looks like a disk, but its target protocols {protocols:02X}h have no SATA bit (01h): it is served as none")
+    })
+}
+
+#[cfg(test)]
+mod tests {
+    use super::super::parse;
+    use super::*;
+
+    fn warned(text: &str) -> Vec<String> {
+        warnings(&parse(text).unwrap(), |_| false)
+    }
+
+    #[test]
+    fn sound_adapters_get_none() {
+        let text = "phy\nphy attached=sata signature=ata\nphy attached=sas\nphy attached=edge\nphy attached=fanout";
+        assert_eq!(warned(text), [""; 0]);
+    }
+
+    #[test]
+    fn each_oddity_by_its_phy() {
+        let found = warned("phy\nphy device-type=0\nphy attached=sata attached-identifier=3");
+        assert_eq!(found.len(), 2);
+        assert!(found[0].starts_with("phy 1: its own identify device type is 0"));
+        assert!(found[1].starts_with("phy 2: the attached phy identifier is 3"));
+        for protocols in ["00h", "02h", "04h", "0Ch"] {
+            let found = warned(&format!("phy attached=sata attached-target={protocols}"));
+            assert_eq!(found.len(), 1, "{protocols}");
+            assert!(found[0].contains(&format!("target protocols {protocols} have no SATA bit")));
+        }
+    }
+
+    #[test]
+    fn a_device_that_is_asked_ata_looks_like_a_disk() {
+        let file = parse("phy attached=sas attached-address=5000C50000000003").unwrap();
+        let asked = |address: &[u8]| address == [0x50, 0, 0xC5, 0, 0, 0, 0, 3];
+        assert_eq!(warnings(&file, asked).len(), 1);
+        assert_eq!(warnings(&file, |_| false).len(), 0);
+    }
+
+    #[test]
+    fn any_bytes() {
+        for length in [0, 1, 511, 512, 1023, 1024, 5000] {
+            warnings(&vec![0xFF; length], |_| true);
+        }
+    }
+}
