@@ -10,12 +10,12 @@ use Rattle.wire.specs.Number.{number}
 use Rattle.block.specs.Check.{word, checkOf}
 
 -- an all-zero block with its number and its check
-abbrev pub zeros : ℕ → ℕ → Case
-zeros k check = record { gives = checkOf (replicate 512 0) k ∷ []; said = check ∷ [] }
+abbrev pub zeroBlock : ℕ → ℕ → Case
+zeroBlock k check = record { gives = checkOf (replicate 512 0) k ∷ []; said = check ∷ [] }
 
-abbrev pub cases : List Case
-cases = zeros 3 4 ∷ []
+abbrev pub blockCases : List Case
+blockCases = zeroBlock 3 4 ∷ []
 
-pub starred : All Holds cases
+pub blockStarred : All Holds blockCases
 unfolding checkOf sumTo word part number
-starred = (refl, tt)
+blockStarred = (refl, tt)

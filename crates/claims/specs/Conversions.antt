@@ -13,15 +13,15 @@ use Rattle.laws.specs.Choice.{either, came-then}
 use Rattle.laws.specs.Fill.{getD-padded}
 use Rattle.laws.specs.Splice.{part, splice, part-splice}
 use Rattle.codes.specs.Codes.{success, getScsiAddress, getDeviceAddress, noScsiAddress, noDeviceAddress}
-use Rattle.rows.specs.Read.{length-device, length-os}
-use Rattle.rows.specs.Row.{Row, noRow, zeroRow, rowAt, rowsHold, deviceIndex, osIndex}
-use Rattle.rows.specs.Conversions.{device-found, os-found, device-own, os-own}
+use Rattle.rows.specs.Read.{length-sas, length-os}
+use Rattle.rows.specs.Row.{Row, noRow, zeroRow, rowAt, rowsHold, sasIndex, osIndex}
+use Rattle.rows.specs.Conversions.{sas-found, os-found, sas-own, os-own}
 use Rattle.layout.specs.Layout.{phyCount, rowCount, rowPlace}
-use Rattle.file.specs.File.{rowAt as fileRow, adapterOf}
+use Rattle.file.specs.File.{fileRow, adapterOf}
 use Rattle.file.specs.Laws.{row-within}
 use Rattle.reports.specs.Report.{Report, filled, report}
 use Rattle.reports.specs.ScsiAddress.{osBytes, scsiAddress}
-use Rattle.reports.specs.DeviceAddress.{deviceBytes, deviceAddress}
+use Rattle.reports.specs.DeviceAddress.{sasBytes, deviceAddress}
 use Rattle.state.specs.Open.{openedOf}
 use Rattle.state.specs.Accepted.{Open, open-accepted, open-holds}
 use Rattle.header.specs.Table.{structureSize}
@@ -45,7 +45,7 @@ pub record Sound (p : Point) (r : Request) (control : ℕ) : Type 0 where
 -- a point whose state and medium are accepted, and whose rows have 16 and 4 bytes
 pub record AcceptedRows (p : Point) : Type 0 where
   pub number : pointNumber p ≡ 0
-  pub devices : (i : ℕ) → i < p .state .adapter .«row_count» → length (rowAt (p .state .adapter .rows) i .device) ≡ 16
+  pub sas : (i : ℕ) → i < p .state .adapter .«row_count» → length (rowAt (p .state .adapter .rows) i .sas) ≡ 16
   pub os : (i : ℕ) → i < p .state .adapter .«row_count» → length (rowAt (p .state .adapter .rows) i .os) ≡ 4
 
 -- what it is answered with, of a code that only reports
@@ -111,7 +111,7 @@ module _ (p : Point) (r : Request) (h : formOf r .size ≤ length (r .buffer)) (
 -- one request and then the other
 pub record RoundTrip (p : Point) : Type 0 where
   -- the OS bytes that the reply to a 27 shows, sent as a 28 in the state and medium that the 27 left, give the SAS address and LUN back
-  pub device : (q r : Request) → Sound p q getScsiAddress → Sound p r getDeviceAddress → grants q (handled p q)
+  pub sas : (q r : Request) → Sound p q getScsiAddress → Sound p r getDeviceAddress → grants q (handled p q)
       → part (bodyOf r) 0 4 ≡ part (bodyShown q (handled p q)) 16 4
       → grants r (handled (step p q) r) × (part (bodyShown r (handled (step p q) r)) 4 16 ≡ part (bodyOf q) 0 16)
   -- the SAS address and LUN that the reply to a 28 shows, sent as a 27, give the OS bytes back
@@ -132,51 +132,51 @@ module _ (p : Point) (w : AcceptedRows p) where
 
   -- what a 27 and a 28 are answered with
   abbrev scsiReport : Request → Report
-  scsiReport r = osBytes rows a (deviceIndex rows a (part (bodyOf r) 0 16)) (bodyOf r)
+  scsiReport r = osBytes rows a (sasIndex rows a (part (bodyOf r) 0 16)) (bodyOf r)
 
   abbrev deviceReport : Request → Report
-  deviceReport r = deviceBytes rows a (osIndex rows a (part (bodyOf r) 0 4)) (bodyOf r)
+  deviceReport r = sasBytes rows a (osIndex rows a (part (bodyOf r) 0 4)) (bodyOf r)
 
-  scsi : (r : Request) → Sound p r getScsiAddress → handled p r ≡ reportedBy p r (scsiReport r)
+  scsi-handled : (r : Request) → Sound p r getScsiAddress → handled p r ≡ reportedBy p r (scsiReport r)
   unfolding served reportOf scsiAddress reportedBy
-  scsi r o = handled-sound p r getScsiAddress (w .number) o
+  scsi-handled r o = handled-sound p r getScsiAddress (w .number) o
 
-  device : (r : Request) → Sound p r getDeviceAddress → handled p r ≡ reportedBy p r (deviceReport r)
+  device-handled : (r : Request) → Sound p r getDeviceAddress → handled p r ≡ reportedBy p r (deviceReport r)
   unfolding served reportOf deviceAddress reportedBy
-  device r o = handled-sound p r getDeviceAddress (w .number) o
+  device-handled r o = handled-sound p r getDeviceAddress (w .number) o
 
   hold : rowsHold rows a ≡ true
   hold = rows-hold (p .state .adapter) (tables-hold (p .state) (number-state (p .state) (length (p .store .medium)) (w .number)))
 
   -- either leaves the point
   scsi-stays : (q : Request) → Sound p q getScsiAddress → step p q ≡ p
-  scsi-stays q o = ap (λ (x : Outcome). x .point) (scsi q o) ∙ reported-stays p q (scsiReport q)
+  scsi-stays q o = ap (λ (x : Outcome). x .point) (scsi-handled q o) ∙ reported-stays p q (scsiReport q)
 
   device-stays : (q : Request) → Sound p q getDeviceAddress → step p q ≡ p
-  device-stays q o = ap (λ (x : Outcome). x .point) (device q o) ∙ reported-stays p q (deviceReport q)
+  device-stays q o = ap (λ (x : Outcome). x .point) (device-handled q o) ∙ reported-stays p q (deviceReport q)
 
   pub both-ways : RoundTrip p
-  unfolding osBytes deviceBytes structureSize
+  unfolding osBytes sasBytes structureSize
   both-ways =
       record {
-        device = λ q r oq or g e.
+        sas = λ q r oq or g e.
             let key : List ℕ = part (bodyOf q) 0 16 in
-            let i : ℕ = deviceIndex rows a key in
-            let l : i < a = found p q (oq .long) i a 16 (rowAt rows i .os) noScsiAddress (omega arith) (omega arith) (rw (scsi q oq) at g) in
+            let i : ℕ = sasIndex rows a key in
+            let l : i < a = found p q (oq .long) i a 16 (rowAt rows i .os) noScsiAddress (omega arith) (omega arith) (rw (scsi-handled q oq) at g) in
             let v = shown p q (oq .long) i a 16 (rowAt rows i .os) noScsiAddress (omega arith) (omega arith) l (omega (arith, room q getScsiAddress oq refl)) in
-            let x : part (bodyOf r) 0 4 ≡ rowAt rows i .os = e ∙ rw (scsi q oq) (rw (w .os i l) at (v .1)) in
+            let x : part (bodyOf r) 0 4 ≡ rowAt rows i .os = e ∙ rw (scsi-handled q oq) (rw (w .os i l) at (v .1)) in
             let j : osIndex rows a (part (bodyOf r) 0 4) ≡ i = rw x (os-own rows a i hold l) in
-            let u = shown p r (or .long) i a 4 (rowAt rows i .device) noDeviceAddress (omega arith) (omega arith) l (omega (arith, room r getDeviceAddress or refl)) in
-            rw (scsi-stays q oq, device r or, j) (u .0, rw (w .devices i l) at (u .1) ∙ device-found rows a key l);
+            let u = shown p r (or .long) i a 4 (rowAt rows i .sas) noDeviceAddress (omega arith) (omega arith) l (omega (arith, room r getDeviceAddress or refl)) in
+            rw (scsi-stays q oq, device-handled r or, j) (u .0, rw (w .sas i l) at (u .1) ∙ sas-found rows a key l);
         os = λ q r oq or g e.
             let key : List ℕ = part (bodyOf q) 0 4 in
             let i : ℕ = osIndex rows a key in
-            let l : i < a = found p q (oq .long) i a 4 (rowAt rows i .device) noDeviceAddress (omega arith) (omega arith) (rw (device q oq) at g) in
-            let v = shown p q (oq .long) i a 4 (rowAt rows i .device) noDeviceAddress (omega arith) (omega arith) l (omega (arith, room q getDeviceAddress oq refl)) in
-            let x : part (bodyOf r) 0 16 ≡ rowAt rows i .device = e ∙ rw (device q oq) (rw (w .devices i l) at (v .1)) in
-            let j : deviceIndex rows a (part (bodyOf r) 0 16) ≡ i = rw x (device-own rows a i hold l) in
+            let l : i < a = found p q (oq .long) i a 4 (rowAt rows i .sas) noDeviceAddress (omega arith) (omega arith) (rw (device-handled q oq) at g) in
+            let v = shown p q (oq .long) i a 4 (rowAt rows i .sas) noDeviceAddress (omega arith) (omega arith) l (omega (arith, room q getDeviceAddress oq refl)) in
+            let x : part (bodyOf r) 0 16 ≡ rowAt rows i .sas = e ∙ rw (device-handled q oq) (rw (w .sas i l) at (v .1)) in
+            let j : sasIndex rows a (part (bodyOf r) 0 16) ≡ i = rw x (sas-own rows a i hold l) in
             let u = shown p r (or .long) i a 16 (rowAt rows i .os) noScsiAddress (omega arith) (omega arith) l (omega (arith, room r getScsiAddress or refl)) in
-            rw (device-stays q oq, scsi r or, j) (u .0, rw (w .os i l) at (u .1) ∙ os-found rows a key l);
+            rw (device-stays q oq, scsi-handled r or, j) (u .0, rw (w .os i l) at (u .1) ∙ os-found rows a key l);
       }
 
 -- ---- every point of a run from an opening that accepts is such a point
@@ -190,14 +190,14 @@ opened-rows text file medium h =
     let inside : (i : ℕ) → i < n → rowPlace p i + 20 ≤ length file = λ i l. row-within file p n i l (sym (o .read .size)) in
     record {
       number = number-zero (openedOf text file medium .state) (length medium) (open-holds text file medium h) (rw (o .opened) (sym (o .disks)));
-      devices = rw (o .opened) (λ i l. ap (λ (x : Row). length (x .device)) (getD-padded (fileRow file p) n 64 i zeroRow noRow l) ∙ length-device file (rowPlace p i) (inside i l));
+      sas = rw (o .opened) (λ i l. ap (λ (x : Row). length (x .sas)) (getD-padded (fileRow file p) n 64 i zeroRow noRow l) ∙ length-sas file (rowPlace p i) (inside i l));
       os = rw (o .opened) (λ i l. ap (λ (x : Row). length (x .os)) (getD-padded (fileRow file p) n 64 i zeroRow noRow l) ∙ length-os file (rowPlace p i) (inside i l));
     }
 
 -- rows never change
 rows-reached : (start p : Point) → Reached start p → AcceptedRows start → AcceptedRows p
 rows-reached start p i w =
-    record { number = i .number ∙ w .number; devices = rw (i .moved .rows, i .moved .rowCount) (w .devices); os = rw (i .moved .rows, i .moved .rowCount) (w .os) }
+    record { number = i .number ∙ w .number; sas = rw (i .moved .rows, i .moved .rowCount) (w .sas); os = rw (i .moved .rows, i .moved .rowCount) (w .os) }
 
 -- after an opening that accepts and any list of requests
 pub round-trip : (text file medium : List ℕ) → openedOf text file medium .call ≡ 0 → (requests : List Request) → RoundTrip (wholeRun text file medium requests .point)

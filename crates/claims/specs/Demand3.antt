@@ -22,7 +22,7 @@ use Rattle.level.specs.Text.{textLevel}
 use Rattle.level.specs.Bound.{level-bound}
 use Rattle.layout.specs.Layout.{phyCount, rowCount, phyBlock}
 use Rattle.block.specs.Check.{blockAt, length-block}
-use Rattle.file.specs.File.{FileRead, phyAt, adapterOf, fileRead}
+use Rattle.file.specs.File.{FileRead, filePhy, adapterOf, fileRead}
 use Rattle.file.specs.Accepted.{phy-read, length-phys}
 use Rattle.adapter.specs.Adapter.{Adapter, phyIn, zeroAdapter, countsHold}
 use Rattle.adapter.specs.Store.{phys-bound}
@@ -30,7 +30,7 @@ use Rattle.select.specs.Select.{lowestOf, selection, selectBy}
 use Rattle.select.specs.Laws.{selection-past}
 use Rattle.passthrough.specs.Passthrough.{phyAsked, portAsked}
 use Rattle.state.specs.State.{stateWith, adapterHolds, stateHolds, zeroState}
-use Rattle.state.specs.Open.{Opened, refused, opened, openNumber, openedFile, openedText, openedOf}
+use Rattle.state.specs.Open.{Opened, refusedOpening, opened, openNumber, openedFile, openedText, openedOf}
 use Rattle.state.specs.Accepted.{Open, open-accepted}
 use Rattle.service.specs.Serve.{storeOf}
 use Rattle.dispatch.specs.Request.{Request, Point, pointOf, Outcome, stateNumber, bufferNumber, untouched, handled}
@@ -79,15 +79,15 @@ module _ (text file medium : List ℕ) (h : openedOf text file medium .call ≡ 
   few = phys-bound (phyCount file) (rowCount file) true (sym (opening .read .counts)) refl
 
   -- the phys are the file's
-  starts : (n : ℕ) → n < phyCount file → phyIn (start .state .adapter) n ≡ phyAt file n
+  starts : (n : ℕ) → n < phyCount file → phyIn (start .state .adapter) n ≡ filePhy file n
   starts n l = rw (opening .opened) (phy-read file (phyCount file) (rowCount file) n l)
 
   counted : start .state .adapter .«phy_count» ≡ phyCount file
   unfolding adapterOf
   counted = rw (opening .opened) refl
 
-  entity-read : (n : ℕ) → n < phyCount file → length (phyAt file n .entity) ≡ 64
-  unfolding phyAt
+  entity-read : (n : ℕ) → n < phyCount file → length (filePhy file n .entity) ≡ 64
+  unfolding filePhy
   entity-read n k = length-entity (blockAt file (phyBlock n)) (length-block file (phyBlock n) (omega (arith, opening .read .size)))
 
   pub sized-opened : Sized (start .state .adapter)
@@ -102,7 +102,7 @@ module _ (text file medium : List ℕ) (h : openedOf text file medium .call ≡ 
   unfolding selectsBy
   selects-same p i body =
       rw (i .moved .count, counted)
-      (select-same (λ (n : ℕ). portOf (phyIn (p .state .adapter) n)) (λ (n : ℕ). portOf (phyAt file n)) (phyCount file) (phyAsked body) (portAsked body)
+      (select-same (λ (n : ℕ). portOf (phyIn (p .state .adapter) n)) (λ (n : ℕ). portOf (filePhy file n)) (phyCount file) (phyAsked body) (portAsked body)
       (λ n k. i .moved .phys n (sized-opened .entities n (rw counted k)) .port ∙ ap portOf (starts n k)))
 
   sectors-last : (s : Sector) (requests : List Request) → sectorIn (wholeRun text file medium requests .point .store) s
@@ -113,14 +113,14 @@ module _ (text file medium : List ℕ) (h : openedOf text file medium .call ≡ 
       (λ p r i. rw (← (selects-same p i)) (request-effect p r (sized-reached start sized-opened p i) .store .sectors s))
 
   minima-last : (n : ℕ) → n < phyCount file → (requests : List Request) → programmedMinimum (phyIn (wholeRun text file medium requests .point .state .adapter) n)
-      ≡ last (rateWriter 2) n (programmedMinimum (phyAt file n)) (exchanges (wholeRun text file medium requests .log))
+      ≡ last (rateWriter 2) n (programmedMinimum (filePhy file n)) (exchanges (wholeRun text file medium requests .log))
   minima-last n l requests =
       rw (starts n l) at
       (last-by start sized-opened (rateWriter 2) n (λ (p : Point). programmedMinimum (phyIn (p .state .adapter) n))
       (λ p r i. request-effect p r (sized-reached start sized-opened p i) .tables .minima n) requests)
 
   maxima-last : (n : ℕ) → n < phyCount file → (requests : List Request) → programmedMaximum (phyIn (wholeRun text file medium requests .point .state .adapter) n)
-      ≡ last (rateWriter 3) n (programmedMaximum (phyAt file n)) (exchanges (wholeRun text file medium requests .log))
+      ≡ last (rateWriter 3) n (programmedMaximum (filePhy file n)) (exchanges (wholeRun text file medium requests .log))
   maxima-last n l requests =
       rw (starts n l) at
       (last-by start sized-opened (rateWriter 3) n (λ (p : Point). programmedMaximum (phyIn (p .state .adapter) n))
@@ -213,8 +213,8 @@ opened-alike : (medium : List ℕ) (l m : Level) (f : FileRead) (size : ℕ) →
     → Alike (pointOf (openedFile l f size .state) medium) (pointOf (openedFile m f size .state) medium)
 unfolding openedFile zeroState
 opened-alike medium l m f size h k =
-    by-bool (λ (t : Bool). Alike (pointOf (cond t (opened l (f .adapter)) (refused (openNumber f size)) .state) medium)
-    (pointOf (cond t (opened m (f .adapter)) (refused (openNumber f size)) .state) medium))
+    by-bool (λ (t : Bool). Alike (pointOf (cond t (opened l (f .adapter)) (refusedOpening (openNumber f size)) .state) medium)
+    (pointOf (cond t (opened m (f .adapter)) (refusedOpening (openNumber f size)) .state) medium))
     (record { adapter = refl; store = refl; levels = h; bound = k }) (record { adapter = refl; store = refl; levels = omega arith; bound = omega arith })
     (eqb (openNumber f size) 0)
 

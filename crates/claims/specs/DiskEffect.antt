@@ -14,14 +14,14 @@ use Rattle.laws.specs.Splice.{part, splice, length-part, length-splice, part-sp
 use Rattle.codes.specs.Codes.{success, invalidParameter, connectionFailed, stpPassthru}
 use Rattle.phy.specs.declared.PhyIdentifier.{PhyIdentifier}
 use Rattle.phy.specs.declared.PortIdentifier.{PortIdentifier}
-use Rattle.disk.specs.Disk.{fis, command, lba, dataLength, served, Served, Lent}
+use Rattle.disk.specs.Disk.{fis, command, lba, dataLength, performed, Performed, Lent}
 use Rattle.disk.specs.Ways.{served-by}
 use Rattle.disk.specs.Laws.{sector, replyStatus, writes, covers, sectorAfter, disk-length, sector-after}
 use Rattle.adapter.specs.Adapter.{Adapter, mediumSize, phyIn}
 use Rattle.select.specs.declared.Selection.{Selection}
 use Rattle.select.specs.Select.{selection, selectBy, lowestOf, phyGiven, portGiven, portIn}
 use Rattle.select.specs.Laws.{selected-below}
-use Rattle.passthrough.specs.Passthrough.{Passed, leaves, phyAsked, portAsked, connectionRate, destinationOf, formHolds, connected, diskOf, onDisk, sentTo, passedTo, passthrough}
+use Rattle.passthrough.specs.Passthrough.{Passed, passes, phyAsked, portAsked, connectionRate, destinationOf, formHolds, connected, diskOf, onDisk, sentTo, passedTo, passthrough}
 use Rattle.service.specs.Serve.{Store, withMedium, passed}
 use Rattle.claims.specs.LastWriter.{Told, after, Sector, sectorIn, sectorWriter, rateWriter}
 use Rattle.claims.specs.Effect.{quiet-other, selectsIn, OnStore, Does, tables-kept, no-effect}
@@ -45,7 +45,7 @@ module _ (ad : Adapter) (medium body : List ℕ) where
       Small s = s .code ≤ 2014
 
   -- it is refused, or the phy that it selects is connected and its disk serves the command
-  passed-by : (P : Passed → Type 0) → ((code : ℕ) → 0 < code → code ≤ 2014 → P (leaves code medium body))
+  passed-by : (P : Passed → Type 0) → ((code : ℕ) → 0 < code → code ≤ 2014 → P (passes code medium body))
       → (selectsIn ad body .code ≡ success → P (onDisk medium (selectsIn ad body .phy .0) body)) → P (passthrough ad medium body)
   unfolding passthrough passedTo sentTo
   passed-by P refused done =
@@ -93,8 +93,8 @@ module _ (ad : Adapter) (store : Store) (body : List ℕ) (h : length (store .me
     abbrev to : ℕ
     to = selectsIn ad body .phy .0
 
-    abbrev onto : Served
-    onto = served (diskOf (store .medium) to) body
+    abbrev onto : Performed
+    onto = performed (diskOf (store .medium) to) body
 
     abbrev told : Told
     told = record { granted = eqb (onto .code) success; control = stpPassthru; body = body; reply = onto .body }
@@ -140,7 +140,7 @@ module _ (ad : Adapter) (store : Store) (body : List ℕ) (h : length (store .me
 
     disk-code : onto .code ≤ 2014
     disk-code =
-        served-by (diskOf (store .medium) to) body lent (λ (s : Served). s .code ≤ 2014)
+        served-by (diskOf (store .medium) to) body lent (λ (s : Performed). s .code ≤ 2014)
         (record { refused = omega arith; plain = λ _. omega arith; filled = λ _ _ _. omega arith; written = λ _ _ _. omega arith })
 
 -- ---- the effect

@@ -10,7 +10,7 @@ use Rattle.laws.specs.Splice.{part}
 use Rattle.codes.specs.Codes.{success, setPhyInfo, stpPassthru}
 use Rattle.phy.specs.Entity.{portOf, programmedMinimum, programmedMaximum}
 use Rattle.layout.specs.Layout.{phyCount}
-use Rattle.file.specs.File.{phyAt}
+use Rattle.file.specs.File.{filePhy}
 use Rattle.disk.specs.Disk.{command, lba}
 use Rattle.disk.specs.Laws.{sector, replyStatus, covers}
 use Rattle.select.specs.declared.Selection.{Selection}
@@ -88,7 +88,7 @@ sectorWriter selects =
 
 -- "the phy it selects", found from the file and the request
 unfoldable pub selectsBy : List ℕ → List ℕ → Selection
-selectsBy file body = selectBy (λ n. portOf (phyAt file n)) (phyCount file) (phyAsked body) (portAsked body)
+selectsBy file body = selectBy (λ n. portOf (filePhy file n)) (phyCount file) (phyAsked body) (portAsked body)
 
 -- "A sector starts as the medium has it"
 abbrev pub lastSector : List ℕ → List ℕ → List Exchange → Sector → List ℕ
@@ -108,7 +108,7 @@ rateWriter place =
 
 -- "a programmed rate [starts] as the file does"
 abbrev pub lastMinimum : List ℕ → List Exchange → ℕ → ℕ
-lastMinimum file xs n = last (rateWriter 2) n (programmedMinimum (phyAt file n)) xs
+lastMinimum file xs n = last (rateWriter 2) n (programmedMinimum (filePhy file n)) xs
 
 abbrev pub lastMaximum : List ℕ → List Exchange → ℕ → ℕ
-lastMaximum file xs n = last (rateWriter 3) n (programmedMaximum (phyAt file n)) xs
+lastMaximum file xs n = last (rateWriter 3) n (programmedMaximum (filePhy file n)) xs

@@ -23,8 +23,8 @@ use Rattle.link.specs.Kept.{kept-reset, settings-reset, kept-disabled, settings
 use Rattle.adapter.specs.Adapter.{Adapter, phyIn, withPhy}
 use Rattle.adapter.specs.Changed.{Stored, Changed, leaves, withBody}
 use Rattle.set_phy_info.specs.declared.PhySetting.{PhySetting}
-use Rattle.set_phy_info.specs.SetPhyInfo.{asked, programmable, resulting, parametersHold, ratesHold, linked, setTo, setChecked, setPhy, phySet, setPhyInfo as setInfo}
-use Rattle.link_errors.specs.LinkErrors.{afterReset, linkErrors, reported}
+use Rattle.set_phy_info.specs.SetPhyInfo.{phySetting, programmable, resulting, parametersHold, ratesAllowed, relinked, setTo, setChecked, setPhy, phySet, setInfo}
+use Rattle.link_errors.specs.LinkErrors.{afterReset, linkErrors, countersShown}
 use Rattle.state.specs.State.{adapterHolds}
 use Rattle.service.specs.Serve.{Store, changed}
 use Rattle.claims.specs.LastWriter.{Told, after, rateWriter, sectorWriter}
@@ -45,22 +45,22 @@ module _ (phy : Phy) (s : PhySetting) (minimum maximum : ℕ) (e : length (phy .
   long = kept-configured phy (s .class) minimum maximum e .size ∙ e
 
   set-settings : Settings set (setTo phy s minimum maximum)
-  unfolding setTo linked
+  unfolding setTo relinked
   set-settings = either (λ (x : Phy). Settings set x) (eqb (s .negotiated) 1) (settings-disabled set) (settings-reset set)
 
   set-kept : Kept phy (setTo phy s minimum maximum)
-  unfolding setTo linked
+  unfolding setTo relinked
   set-kept =
       kept-trans phy set (setTo phy s minimum maximum) (kept-configured phy (s .class) minimum maximum e)
       (either (λ (x : Phy). Kept set x) (eqb (s .negotiated) 1) (kept-disabled set) (kept-reset set))
 
   set-negotiated : negotiatedHolds (setTo phy s minimum maximum) ≡ true
-  unfolding setTo linked
+  unfolding setTo relinked
   set-negotiated = either (λ (x : Phy). negotiatedHolds x ≡ true) (eqb (s .negotiated) 1) (holds-disabled set long) (holds-reset set long)
 
-  set-fields : (n : PhyIdentifier) (p : ℕ) → parametersHold s ≡ true → ratesHold phy s minimum maximum ≡ true → fieldsHold phy n p ≡ true
+  set-fields : (n : PhyIdentifier) (p : ℕ) → parametersHold s ≡ true → ratesAllowed phy s minimum maximum ≡ true → fieldsHold phy n p ≡ true
       → fieldsHold (setTo phy s minimum maximum) n p ≡ true
-  unfolding setTo linked parametersHold ratesHold
+  unfolding setTo relinked parametersHold ratesAllowed
   set-fields n p a r f =
       let c : leb (s .class) 3 ≡ true = both-right (leb (s .negotiated) 1) (leb (s .class) 3) a in
       let q : rangeHolds phy minimum maximum ≡ true = both-right (programmable (s .minimum) && programmable (s .maximum)) (rangeHolds phy minimum maximum) r in
@@ -71,25 +71,25 @@ module _ (phy : Phy) (s : PhySetting) (minimum maximum : ℕ) (e : length (phy .
 
 unfoldable setNow : Phy → List ℕ → Phy
 setNow phy body =
-    setTo phy (asked body) (resulting (getD body 2 0) (programmedMinimum phy)) (resulting (getD body 3 0) (programmedMaximum phy))
+    setTo phy (phySetting body) (resulting (getD body 2 0) (programmedMinimum phy)) (resulting (getD body 3 0) (programmedMaximum phy))
 
 abbrev Allowed : Phy → List ℕ → Type 0
 Allowed phy body =
-    (parametersHold (asked body) ≡ true)
-    × (ratesHold phy (asked body) (resulting (getD body 2 0) (programmedMinimum phy)) (resulting (getD body 3 0) (programmedMaximum phy)) ≡ true)
+    (parametersHold (phySetting body) ≡ true)
+    × (ratesAllowed phy (phySetting body) (resulting (getD body 2 0) (programmedMinimum phy)) (resulting (getD body 3 0) (programmedMaximum phy)) ≡ true)
 
 set-by : (ad : Adapter) (body : List ℕ) (P : Changed → Type 0) → ((code : ℕ) → 0 < code → code ≤ 2014 → P (leaves code ad body))
     → (named body < ad .«phy_count» → Allowed (phyIn ad (named body)) body
     → P (leaves success (withPhy ad (named body) (setNow (phyIn ad (named body)) body)) body))
     → P (setInfo ad body)
-unfolding setInfo phySet setPhy setChecked asked setNow
+unfolding setInfo phySet setPhy setChecked phySetting setNow
 set-by ad body P refused done =
     let phy : Phy = phyIn ad (named body) in
     let Q : (Stored → Type 0) = λ s. P (withBody s body) in
     either-by Q (ltb (named body) (ad .«phy_count»))
     (λ h. either Q (eqb (phy .fixed) 1) (refused 2000 (omega arith) (omega arith))
-    (either-by Q (parametersHold (asked body))
-    (λ k. either-by Q (ratesHold phy (asked body) (resulting (getD body 2 0) (programmedMinimum phy)) (resulting (getD body 3 0) (programmedMaximum phy)))
+    (either-by Q (parametersHold (phySetting body))
+    (λ k. either-by Q (ratesAllowed phy (phySetting body) (resulting (getD body 2 0) (programmedMinimum phy)) (resulting (getD body 3 0) (programmedMaximum phy)))
     (λ r. done (ltb-true (named body) (ad .«phy_count») h) (k, r)) (λ _. refused 2001 (omega arith) (omega arith)))
     (λ _. refused 3 (omega arith) (omega arith))))
     (λ _. refused 2002 (omega arith) (omega arith))
@@ -118,19 +118,19 @@ module _ (ad : Adapter) (store : Store) (body : List ℕ) (h : adapterHolds ad �
   phy = phyIn ad n
 
   set-storing : n < ad .«phy_count» → Allowed phy body → Storing ad (toldSet body) n (setNow phy body)
-  unfolding setNow asked
+  unfolding setNow phySetting
   set-storing k a =
       let e : length (phy .entity) ≡ 64 = z .entities n k in
       let l : ℕ = resulting (getD body 2 0) (programmedMinimum phy) in
       let u : ℕ = resulting (getD body 3 0) (programmedMaximum phy) in
-      let s = set-settings phy (asked body) l u e in
+      let s = set-settings phy (phySetting body) l u e in
       record {
         below = k;
-        kept = set-kept phy (asked body) l u e;
-        fields = set-fields phy (asked body) l u e (record { 0 = n }) (ad .«phy_count») (a .0) (a .1) (fields-in ad h n k);
-        negotiated = set-negotiated phy (asked body) l u e;
-        minimum = s .minimum ∙ minimum-configured phy (asked body .class) l u e ∙ sym (told-rate 2 body (programmedMinimum phy));
-        maximum = s .maximum ∙ maximum-configured phy (asked body .class) l u e ∙ sym (told-rate 3 body (programmedMaximum phy));
+        kept = set-kept phy (phySetting body) l u e;
+        fields = set-fields phy (phySetting body) l u e (record { 0 = n }) (ad .«phy_count») (a .0) (a .1) (fields-in ad h n k);
+        negotiated = set-negotiated phy (phySetting body) l u e;
+        minimum = s .minimum ∙ minimum-configured phy (phySetting body .class) l u e ∙ sym (told-rate 2 body (programmedMinimum phy));
+        maximum = s .maximum ∙ maximum-configured phy (phySetting body .class) l u e ∙ sym (told-rate 3 body (programmedMaximum phy));
         others = told-other body;
       }
 
@@ -149,18 +149,18 @@ module _ (ad : Adapter) (store : Store) (body : List ℕ) (h : adapterHolds ad �
   -- ---- code 22
 
   errors-by : (P : Changed → Type 0) → ((code : ℕ) → 0 < code → code ≤ 2014 → P (leaves code ad body))
-      → (n < ad .«phy_count» → P (leaves success (withPhy ad n (cleared phy)) (reported body (phy .counters))))
-      → P (leaves success ad (reported body (phy .counters))) → P (linkErrors ad body)
+      → (n < ad .«phy_count» → P (leaves success (withPhy ad n (cleared phy)) (countersShown body (phy .counters))))
+      → P (leaves success ad (countersShown body (phy .counters))) → P (linkErrors ad body)
   unfolding linkErrors afterReset
   errors-by P refused cleared kept =
       either P (leb (getD body 1 0) 1)
       (either-by P (ltb n (ad .«phy_count»))
-      (λ k. either (λ (s : Stored). P (withBody s (reported body (phy .counters)))) (eqb (getD body 1 0) 1) (cleared (ltb-true n (ad .«phy_count») k)) kept)
+      (λ k. either (λ (s : Stored). P (withBody s (countersShown body (phy .counters)))) (eqb (getD body 1 0) 1) (cleared (ltb-true n (ad .«phy_count») k)) kept)
       (λ _. refused 2002 (omega arith) (omega arith)))
       (refused 3 (omega arith) (omega arith))
 
   abbrev toldErrors : Told
-  toldErrors = record { granted = true; control = getLinkErrors; body = body; reply = reported body (phy .counters) }
+  toldErrors = record { granted = true; control = getLinkErrors; body = body; reply = countersShown body (phy .counters) }
 
   no-rate : (place m before : ℕ) → after (rateWriter place) m toldErrors before ≡ before
   no-rate place = quiet-other (rateWriter place) toldErrors (λ e. omega arith)

@@ -13,7 +13,7 @@ use Rattle.laws.specs.Runs.{ends, kept}
 use Rattle.codes.specs.Codes.{setPhyInfo, getLinkErrors, stpPassthru}
 use Rattle.adapter.specs.Adapter.{Adapter, mediumSize}
 use Rattle.passthrough.specs.Passthrough.{passthrough}
-use Rattle.set_phy_info.specs.SetPhyInfo.{setPhyInfo as setInfo}
+use Rattle.set_phy_info.specs.SetPhyInfo.{setInfo}
 use Rattle.link_errors.specs.LinkErrors.{linkErrors}
 use Rattle.state.specs.State.{State, adapterHolds, stateHolds}
 use Rattle.service.specs.Laws.{passthrough-lent}

@@ -1,11 +1,11 @@
 -- The starred cases of every layer (document 01, "Starred cases"), in one statement over a table. Assumes nothing.
 use mathlib.Core.List.{List, [], _∷_, _++_}
 use Rattle.laws.specs.Cases.{Case, Holds, All}
-use Rattle.level.specs.Starred.{cases as levelCases, starred as levelStarred}
-use Rattle.block.specs.Starred.{cases as blockCases, starred as blockStarred}
-use Rattle.layout.specs.Starred.{cases as layoutCases, starred as layoutStarred}
-use Rattle.link.specs.Starred.{cases as linkCases, starred as linkStarred}
-use Rattle.disk.specs.Starred.{cases as diskCases, starred as diskStarred}
+use Rattle.level.specs.Starred.{levelCases, levelStarred}
+use Rattle.block.specs.Starred.{blockCases, blockStarred}
+use Rattle.layout.specs.Starred.{layoutCases, layoutStarred}
+use Rattle.link.specs.Starred.{linkCases, linkStarred}
+use Rattle.disk.specs.Starred.{diskCases, diskStarred}
 
 all-append : {A : Type 0} (P : A → Type 0) (l m : List A) → All P l → All P m → All P (l ++ m)
 all-append P [] m p q = q

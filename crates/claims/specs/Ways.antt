@@ -11,7 +11,7 @@ use Rattle.laws.specs.Choice.{either-by, both-right}
 use Rattle.codes.specs.Codes.{setPhyInfo, getLinkErrors, stpPassthru, success}
 use Rattle.level.specs.declared.Level.{Level}
 use Rattle.adapter.specs.Adapter.{Adapter, mediumSize}
-use Rattle.set_phy_info.specs.SetPhyInfo.{setPhyInfo as setInfo}
+use Rattle.set_phy_info.specs.SetPhyInfo.{setInfo}
 use Rattle.link_errors.specs.LinkErrors.{linkErrors}
 use Rattle.passthrough.specs.Passthrough.{passthrough}
 use Rattle.state.specs.State.{State, adapterHolds, stateHolds}
@@ -19,7 +19,7 @@ use Rattle.header.specs.Table.{structureSize, dataSize}
 use Rattle.header.specs.Laws.{code-shown, headed, body-shown}
 use Rattle.service.specs.Serve.{Store, Served, reported, changed, passed, reportOf, served}
 use Rattle.dispatch.specs.Laws.{form-room, checks-small, checks-room, number-state, number-medium, heard-number, heard-buffer}
-use Rattle.dispatch.specs.Request.{Request, formOf, controlOf, bodyOf, checksCode, Point, Outcome, pointNumber, callNumber, untouched, inBuffer, refused, answered, replied, answeredAt, handled}
+use Rattle.dispatch.specs.Request.{Request, formOf, controlOf, bodyOf, checksCode, Point, Outcome, pointNumber, callNumber, untouched, inBuffer, refusedRequest, answered, replied, answeredAt, handled}
 use Rattle.claims.specs.Run.{exchangeOf}
 use Rattle.claims.specs.LastWriter.{granted, Told, toldBy}
 
@@ -52,7 +52,7 @@ tables-hold s = both-right (leb (s .level .0) 3) (adapterHolds (s .adapter))
 
 pub handled-by : (p : Point) (r : Request) (P : Outcome → Type 0)
     → ((call : ℕ) → 0 < call → P (untouched call p r))
-    → ((code : ℕ) → 0 < code → code ≤ 4 → formOf r .size ≤ length (r .buffer) → P (replied (formOf r) (p .state .level) (refused code (p .state .adapter) (p .store) r)))
+    → ((code : ℕ) → 0 < code → code ≤ 4 → formOf r .size ≤ length (r .buffer) → P (replied (formOf r) (p .state .level) (refusedRequest code (p .state .adapter) (p .store) r)))
     → (formOf r .size ≤ length (r .buffer) → Ready (p .state .adapter) (p .store) (controlOf r) (bodyOf r)
     → P (replied (formOf r) (p .state .level) (inBuffer r (served (p .state .adapter) (p .store) (controlOf r) (bodyOf r)))))
     → P (handled p r)
@@ -89,7 +89,7 @@ module _ (p : Point) (r : Request) where
 
   -- nor did a return code of the checks up to the level
   pub told-refused : (code : ℕ) → 0 < code → code ≤ 4 → formOf r .size ≤ length (r .buffer)
-      → toldBy (exchangeOf r (replied (formOf r) (p .state .level) (refused code (p .state .adapter) (p .store) r))) .granted ≡ false
+      → toldBy (exchangeOf r (replied (formOf r) (p .state .level) (refusedRequest code (p .state .adapter) (p .store) r))) .granted ≡ false
   unfolding toldBy granted
   told-refused code z k h = rw (code-shown (formOf r) (form-room r) (r .buffer) code h (omega arith)) (ne-eqb code success (λ e. omega arith))
 

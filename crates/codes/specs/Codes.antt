@@ -105,8 +105,8 @@ abbrev pub badText : ℕ
 badText = 101
 
 -- file length
-abbrev pub fileLength : ℕ
-fileLength = 102
+abbrev pub badFileLength : ℕ
+badFileLength = 102
 
 -- block check
 abbrev pub blockCheck : ℕ
@@ -121,8 +121,8 @@ abbrev pub sharedRow : ℕ
 sharedRow = 105
 
 -- medium length
-abbrev pub mediumLength : ℕ
-mediumLength = 106
+abbrev pub badMediumLength : ℕ
+badMediumLength = 106
 
 -- the state breaks a rule
 abbrev pub badState : ℕ

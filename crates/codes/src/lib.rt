@@ -55,7 +55,7 @@ pub const SHORT_BUFFER: u32 = 100;
 
 pub const BAD_TEXT: u32 = 101;
 
-pub const FILE_LENGTH: u32 = 102;
+pub const BAD_FILE_LENGTH: u32 = 102;
 
 pub const BLOCK_CHECK: u32 = 103;
 
@@ -63,6 +63,6 @@ pub const BAD_FIELD: u32 = 104;
 
 pub const SHARED_ROW: u32 = 105;
 
-pub const MEDIUM_LENGTH: u32 = 106;
+pub const BAD_MEDIUM_LENGTH: u32 = 106;
 
 pub const BAD_STATE: u32 = 107;

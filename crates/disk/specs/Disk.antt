@@ -42,40 +42,40 @@ abbrev pub dataLength : List ℕ → ℕ
 dataLength body = number (part body 40 4)
 
 -- all of it together, as the code reads it
-unfoldable pub asked : List ℕ → AtaCommand
-asked body =
+unfoldable pub ataCommand : List ℕ → AtaCommand
+ataCommand body =
     record { command = command body; addressed = addressed body; lba = lba body; count = count body; «data_length» = dataLength body }
 
 -- ---- what the disk answers
 
 -- "Success is 50h, 0", with the bytes that it moves
-abbrev pub success : ℕ → Answer
-success moved = record { status = 0x50; error = 0; moved = moved }
+abbrev pub succeeds : ℕ → Answer
+succeeds moved = record { status = 0x50; error = 0; moved = moved }
 
 -- "status 51h", with an error, and no byte is moved
-abbrev pub failure : ℕ → Answer
-failure error = record { status = 0x51; error = error; moved = 0 }
+abbrev pub fails : ℕ → Answer
+fails error = record { status = 0x51; error = error; moved = 0 }
 
 -- "Bit 6 of byte 7 clear: status 51h, error 04h. Past the last sector: 51h, 10h"
 unfoldable pub transfer : Bool → ℕ → ℕ → Answer
 transfer addressed lba count =
-    cond addressed (cond (ltb 16 (lba + count)) (failure 0x10) (success (512 * count))) (failure 0x04)
+    cond addressed (cond (ltb 16 (lba + count)) (fails 0x10) (succeeds (512 * count))) (fails 0x04)
 
 -- "20h reads and 30h writes sectors", "ECh gives 512 bytes", "E5h succeeds", "Other commands: 51h, 04h"
-unfoldable pub judged : ℕ → Bool → ℕ → ℕ → Answer
-judged command addressed lba count =
+unfoldable pub answerBy : ℕ → Bool → ℕ → ℕ → Answer
+answerBy command addressed lba count =
     cond (eqb command 0x20) (transfer addressed lba count)
     (cond (eqb command 0x30) (transfer addressed lba count)
-    (cond (eqb command 0xec) (success 512)
-    (cond (eqb command 0xe5) (success 0)
-    (failure 0x04))))
+    (cond (eqb command 0xec) (succeeds 512)
+    (cond (eqb command 0xe5) (succeeds 0)
+    (fails 0x04))))
 
 -- the answer to a request, and to the body that holds it
 abbrev pub answerTo : AtaCommand → Answer
-answerTo r = judged (r .command) (r .addressed) (r .lba) (r .count)
+answerTo r = answerBy (r .command) (r .addressed) (r .lba) (r .count)
 
-abbrev pub answer : List ℕ → Answer
-answer body = answerTo (asked body)
+abbrev pub answerOf : List ℕ → Answer
+answerOf body = answerTo (ataCommand body)
 
 -- "ECh gives 512 bytes, word 49 = 0200h, word 60 = 16, else 0"
 unfoldable pub identify : List ℕ
@@ -104,34 +104,34 @@ statusOf body twelve a =
     (0 ∷ 0 ∷ 0 ∷ 0 ∷ []) ++ (statusFis body (a .status) (a .error) twelve ++ (replicate 64 0 ++ bytes 4 (a .moved)))
 
 -- the body with Status filled in
-unfoldable pub replied : List ℕ → AtaCommand → Answer → List ℕ
-replied body r a = splice body 44 (statusOf body (byteTwelve (r .command) (fis body 12)) a)
+unfoldable pub withStatus : List ℕ → AtaCommand → Answer → List ℕ
+withStatus body r a = splice body 44 (statusOf body (byteTwelve (r .command) (fis body 12)) a)
 
 -- ---- what a request leaves
 
 -- the return code, the disk and the body
-pub record Served : Type 0 where
+pub record Performed : Type 0 where
   pub code : ℕ
   pub disk : List ℕ
   pub body : List ℕ
 
-abbrev pub left : ℕ → List ℕ → List ℕ → Served
-left code disk body = record { code = code; disk = disk; body = body }
+abbrev pub performs : ℕ → List ℕ → List ℕ → Performed
+performs code disk body = record { code = code; disk = disk; body = body }
 
 -- "If the data of a success exceeds uDataLength: code 3. Otherwise code 0 and Status", the data going "to or from the start of
 -- bDataBuffer". "Such a 30h with status 50h writes its sectors"
-unfoldable pub acted : List ℕ → List ℕ → AtaCommand → Answer → Served
+unfoldable pub acted : List ℕ → List ℕ → AtaCommand → Answer → Performed
 acted disk body r a =
-    cond (ltb (r .«data_length») (a .moved)) (left invalidParameter disk body)
-    (cond (eqb (a .status) 0x51) (left 0 disk (replied body r a))
-    (cond (eqb (r .command) 0x20) (left 0 disk (splice (replied body r a) 136 (sectors disk r)))
-    (cond (eqb (r .command) 0xec) (left 0 disk (splice (replied body r a) 136 identify))
-    (cond (eqb (r .command) 0x30) (left 0 (splice disk (512 * r .lba) (part body 136 (512 * r .count))) (replied body r a))
-    (left 0 disk (replied body r a))))))
+    cond (ltb (r .«data_length») (a .moved)) (performs invalidParameter disk body)
+    (cond (eqb (a .status) 0x51) (performs 0 disk (withStatus body r a))
+    (cond (eqb (r .command) 0x20) (performs 0 disk (splice (withStatus body r a) 136 (sectors disk r)))
+    (cond (eqb (r .command) 0xec) (performs 0 disk (splice (withStatus body r a) 136 identify))
+    (cond (eqb (r .command) 0x30) (performs 0 (splice disk (512 * r .lba) (part body 136 (512 * r .count))) (withStatus body r a))
+    (performs 0 disk (withStatus body r a))))))
 
 -- a request as it came
-unfoldable pub served : List ℕ → List ℕ → Served
-served disk body = acted disk body (asked body) (answer body)
+unfoldable pub performed : List ℕ → List ℕ → Performed
+performed disk body = acted disk body (ataCommand body) (answerOf body)
 
 -- what a caller sees to: the disk is whole, and the body has the fixed part and n bytes of data
 abbrev pub Lent : List ℕ → List ℕ → ℕ → Type 0

@@ -13,7 +13,7 @@ use Rattle.laws.specs.Splice.{part, splice, length-part, length-splice, part-pa
 use Rattle.wire.specs.Number.{bytes}
 use Rattle.disk.specs.declared.Answer.{Answer}
 use Rattle.disk.specs.declared.AtaCommand.{AtaCommand}
-use Rattle.disk.specs.Disk.{fis, command, lba, count, dataLength, asked, answer, byteTwelve, statusOf, replied, Served, served, Lent}
+use Rattle.disk.specs.Disk.{fis, command, lba, count, dataLength, ataCommand, answerOf, byteTwelve, statusOf, withStatus, Performed, performed, Lent}
 use Rattle.disk.specs.Ways.{writing, served-by}
 
 -- sector s of a disk
@@ -54,8 +54,8 @@ pub record Replied (body : List ℕ) (status code : ℕ) (reply : List ℕ) : Ty
   pub front : (i n : ℕ) → i + n ≤ 44 → part reply i n ≡ part body i n
   pub shown : code ≡ 0 → replyStatus reply ≡ status
 
-with-status : (body : List ℕ) (r : AtaCommand) (a : Answer) → 136 ≤ length body → Replied body (a .status) 0 (replied body r a)
-unfolding replied
+with-status : (body : List ℕ) (r : AtaCommand) (a : Answer) → 136 ≤ length body → Replied body (a .status) 0 (withStatus body r a)
+unfolding withStatus
 with-status body r a h =
     let twelve : ℕ = byteTwelve (r .command) (fis body 12) in
     let s : List ℕ = statusOf body twelve a in
@@ -110,16 +110,16 @@ module _ (disk body : List ℕ) (from n k : ℕ) (h : 512 * from + 512 * n ≤ l
 -- ---- the laws
 
 module _ (disk body : List ℕ) (h : Lent disk body (dataLength body)) where
-  plain-reply : Replied body (answer body .status) 0 (replied body (asked body) (answer body))
-  plain-reply = with-status body (asked body) (answer body) (omega arith)
+  plain-reply : Replied body (answerOf body .status) 0 (withStatus body (ataCommand body) (answerOf body))
+  plain-reply = with-status body (ataCommand body) (answerOf body) (omega arith)
 
-  filled-reply : (s : List ℕ) → 136 + length s ≤ length body → Replied body (answer body .status) 0 (splice (replied body (asked body) (answer body)) 136 s)
-  filled-reply s m = with-data body (replied body (asked body) (answer body)) s (answer body .status) m plain-reply
+  filled-reply : (s : List ℕ) → 136 + length s ≤ length body → Replied body (answerOf body .status) 0 (splice (withStatus body (ataCommand body) (answerOf body)) 136 s)
+  filled-reply s m = with-data body (withStatus body (ataCommand body) (answerOf body)) s (answerOf body .status) m plain-reply
 
   -- the body keeps its length and its bytes before Status, and a code of 0 shows the answer's status
-  pub served-reply : Replied body (answer body .status) (served disk body .code) (served disk body .body)
+  pub served-reply : Replied body (answerOf body .status) (performed disk body .code) (performed disk body .body)
   served-reply =
-      served-by disk body h (λ (s : Served). Replied body (answer body .status) (s .code) (s .body))
+      served-by disk body h (λ (s : Performed). Replied body (answerOf body .status) (s .code) (s .body))
       (record {
         refused = record { size = refl; front = λ i n k. refl; shown = λ z. absurd (omega arith) };
         plain = λ _. plain-reply;
@@ -128,10 +128,10 @@ module _ (disk body : List ℕ) (h : Lent disk body (dataLength body)) where
       })
 
   -- the disk keeps its length
-  pub disk-length : length (served disk body .disk) ≡ 8192
-  unfolding asked
+  pub disk-length : length (performed disk body .disk) ≡ 8192
+  unfolding ataCommand
   disk-length =
-      served-by disk body h (λ (s : Served). length (s .disk) ≡ 8192)
+      served-by disk body h (λ (s : Performed). length (s .disk) ≡ 8192)
       (record {
         refused = h .0;
         plain = λ _. h .0;
@@ -142,30 +142,30 @@ module _ (disk body : List ℕ) (h : Lent disk body (dataLength body)) where
       })
 
   -- a reply with code 0 tells whether the request wrote
-  shows : (t : Bool) (reply : List ℕ) → Replied body (answer body .status) 0 reply → writing (asked body) (answer body) ≡ t → writes 0 body reply ≡ t
-  unfolding writes asked
+  shows : (t : Bool) (reply : List ℕ) → Replied body (answerOf body .status) 0 reply → writing (ataCommand body) (answerOf body) ≡ t → writes 0 body reply ≡ t
+  unfolding writes ataCommand
   shows t reply p e = rw (p .shown refl) e
 
   -- a request that does not write leaves the whole disk
-  pub disk-kept : writes (served disk body .code) body (served disk body .body) ≡ false → served disk body .disk ≡ disk
+  pub disk-kept : writes (performed disk body .code) body (performed disk body .body) ≡ false → performed disk body .disk ≡ disk
   disk-kept =
-      served-by disk body h (λ (s : Served). writes (s .code) body (s .body) ≡ false → s .disk ≡ disk)
+      served-by disk body h (λ (s : Performed). writes (s .code) body (s .body) ≡ false → s .disk ≡ disk)
       (record {
         refused = λ _. refl;
         plain = λ _ _. refl;
         filled = λ s _ m _. refl;
-        written = λ y _ _ n. absurd (true≢false (sym (shows true (replied body (asked body) (answer body)) plain-reply y) ∙ n));
+        written = λ y _ _ n. absurd (true≢false (sym (shows true (withStatus body (ataCommand body) (answerOf body)) plain-reply y) ∙ n));
       })
 
   -- each sector after the request
-  pub sector-after : (k : ℕ) → sector (served disk body .disk) k ≡ sectorAfter (served disk body .code) body (served disk body .body) k (sector disk k)
-  unfolding sectorAfter writes covers asked stored
+  pub sector-after : (k : ℕ) → sector (performed disk body .disk) k ≡ sectorAfter (performed disk body .code) body (performed disk body .body) k (sector disk k)
+  unfolding sectorAfter writes covers ataCommand stored
   sector-after k =
-      served-by disk body h (λ (s : Served). sector (s .disk) k ≡ sectorAfter (s .code) body (s .body) k (sector disk k))
+      served-by disk body h (λ (s : Performed). sector (s .disk) k ≡ sectorAfter (s .code) body (s .body) k (sector disk k))
       (record {
         refused = refl;
-        plain = λ n. rw (shows false (replied body (asked body) (answer body)) plain-reply n);
-        filled = λ s n m. rw (shows false (splice (replied body (asked body) (answer body)) 136 s) (filled-reply s m) n);
+        plain = λ n. rw (shows false (withStatus body (ataCommand body) (answerOf body)) plain-reply n);
+        filled = λ s n m. rw (shows false (splice (withStatus body (ataCommand body) (answerOf body)) 136 s) (filled-reply s m) n);
         written = λ y i m.
-            rw (shows true (replied body (asked body) (answer body)) plain-reply y) (stored-sector disk body (lba body) (count body) k (omega arith) m);
+            rw (shows true (withStatus body (ataCommand body) (answerOf body)) plain-reply y) (stored-sector disk body (lba body) (count body) k (omega arith) m);
       })

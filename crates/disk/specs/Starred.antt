@@ -5,7 +5,7 @@ use mathlib.Core.List.{List, [], _∷_, _++_}
 use Prim.Native.Nat.{ℕ}
 use lib.ListN.{replicate}
 use Rattle.laws.specs.Cases.{Case, Holds, All}
-use Rattle.disk.specs.Disk.{countOf, asked, transfer, judged, answer}
+use Rattle.disk.specs.Disk.{countOf, ataCommand, transfer, answerBy, answerOf}
 
 -- a body up to its command FIS, whose bytes from 0 on are: its type, the flag of a command, the command's code, features; the LBA's three lower bytes
 -- and byte 7; the LBA's and the features' further bytes; the count byte
@@ -17,12 +17,12 @@ bodyWith command lba seven byte =
 abbrev pub bitSet : ℕ → ℕ → ℕ → ℕ → ℕ → Case
 bitSet command lba byte status error =
     record {
-      gives = answer (bodyWith command lba 0x40 byte) .status ∷ answer (bodyWith command lba 0x40 byte) .error ∷ [];
+      gives = answerOf (bodyWith command lba 0x40 byte) .status ∷ answerOf (bodyWith command lba 0x40 byte) .error ∷ [];
       said = status ∷ error ∷ [];
     }
 
-abbrev pub cases : List Case
-cases =
+abbrev pub diskCases : List Case
+diskCases =
     bitSet 0x20 15 1 0x50 0
     ∷ bitSet 0x30 15 1 0x50 0
     ∷ bitSet 0x20 15 2 0x51 0x10
@@ -31,6 +31,6 @@ cases =
     ∷ bitSet 0x30 0 0 0x51 0x10
     ∷ []
 
-pub starred : All Holds cases
-unfolding asked countOf transfer judged
-starred = (refl, (refl, (refl, (refl, (refl, (refl, tt))))))
+pub diskStarred : All Holds diskCases
+unfolding ataCommand countOf transfer answerBy
+diskStarred = (refl, (refl, (refl, (refl, (refl, (refl, tt))))))

@@ -14,7 +14,7 @@ use Rattle.laws.specs.Splice.{part, splice}
 use Rattle.wire.specs.Number.{bytes}
 use Rattle.disk.specs.declared.Answer.{Answer}
 use Rattle.disk.specs.declared.AtaCommand.{AtaCommand}
-use Rattle.disk.specs.Disk.{left, success, failure, transfer, judged, statusOf, asked, dataLength}
+use Rattle.disk.specs.Disk.{performs, succeeds, fails, transfer, answerBy, statusOf, ataCommand, dataLength}
 
 -- bytes 4 to 13 of the command FIS, one by one
 part-ten : (s : List ℕ) → 136 ≤ length s
@@ -33,13 +33,13 @@ unfolding splice statusOf bytes
 status-built body s t twelve a h p q = q ∙ rw (p, part-ten body h)
 
 -- a request as it was read leaves the room that its data length says
-pub asked-lent : (r : AtaCommand) (body : List ℕ) (n : ℕ) → r ≡ asked body → 136 + dataLength body ≤ n → 136 + r .«data_length» ≤ n
-unfolding asked
+pub asked-lent : (r : AtaCommand) (body : List ℕ) (n : ℕ) → r ≡ ataCommand body → 136 + dataLength body ≤ n → 136 + r .«data_length» ≤ n
+unfolding ataCommand
 asked-lent r body n e h = rw e h
 
 -- two that agree in disk and body
-pub left-by : (code : ℕ) (disk disk′ body body′ : List ℕ) → disk ≡ disk′ → body ≡ body′ → left code disk body ≡ left code disk′ body′
-left-by code disk disk′ body body′ p q = rw (p, q)
+pub performs-by : (code : ℕ) (disk disk′ body body′ : List ℕ) → disk ≡ disk′ → body ≡ body′ → performs code disk body ≡ performs code disk′ body′
+performs-by code disk disk′ body body′ p q = rw (p, q)
 
 -- ---- what a success of 20h, 30h or ECh says of the request
 
@@ -48,35 +48,35 @@ abbrev pub Succeeds : Answer → Type 0
 Succeeds a = a .status ≡ 0x51 → ⊥
 
 pub transfer-success : (addressed : Bool) (lba count : ℕ) → Succeeds (transfer addressed lba count)
-    → (lba + count ≤ 16) × (transfer addressed lba count ≡ success (512 * count))
+    → (lba + count ≤ 16) × (transfer addressed lba count ≡ succeeds (512 * count))
 unfolding transfer
 transfer-success addressed lba count h =
-    let p : (addressed ≡ true) × Succeeds (cond (ltb 16 (lba + count)) (failure 0x10) (success (512 * count))) = came-then Succeeds addressed (λ k. k refl) h in
-    let q : (ltb 16 (lba + count) ≡ false) × Succeeds (success (512 * count)) = came-else Succeeds (ltb 16 (lba + count)) (λ k. k refl) (p .1) in
+    let p : (addressed ≡ true) × Succeeds (cond (ltb 16 (lba + count)) (fails 0x10) (succeeds (512 * count))) = came-then Succeeds addressed (λ k. k refl) h in
+    let q : (ltb 16 (lba + count) ≡ false) × Succeeds (succeeds (512 * count)) = came-else Succeeds (ltb 16 (lba + count)) (λ k. k refl) (p .1) in
     (ltb-false 16 (lba + count) (q .0), rw (p .0, q .0))
 
 -- 20h and 30h answer as a transfer does
-pub read-transfers : (command : ℕ) (addressed : Bool) (lba count : ℕ) → command ≡ 0x20 → judged command addressed lba count ≡ transfer addressed lba count
-unfolding judged
+pub read-transfers : (command : ℕ) (addressed : Bool) (lba count : ℕ) → command ≡ 0x20 → answerBy command addressed lba count ≡ transfer addressed lba count
+unfolding answerBy
 read-transfers command addressed lba count e = rw e
 
-pub write-transfers : (command : ℕ) (addressed : Bool) (lba count : ℕ) → command ≡ 0x30 → judged command addressed lba count ≡ transfer addressed lba count
-unfolding judged
+pub write-transfers : (command : ℕ) (addressed : Bool) (lba count : ℕ) → command ≡ 0x30 → answerBy command addressed lba count ≡ transfer addressed lba count
+unfolding answerBy
 write-transfers command addressed lba count e = rw e
 
-module _ (a : Answer) (command : ℕ) (addressed : Bool) (lba count : ℕ) (e : a ≡ judged command addressed lba count) where
+module _ (a : Answer) (command : ℕ) (addressed : Bool) (lba count : ℕ) (e : a ≡ answerBy command addressed lba count) where
   -- a transfer that succeeds ends on the disk and moves its sectors
-  pub transferred : Succeeds a → judged command addressed lba count ≡ transfer addressed lba count
-      → (lba + count ≤ 16) × (a ≡ success (512 * count))
+  pub transferred : Succeeds a → answerBy command addressed lba count ≡ transfer addressed lba count
+      → (lba + count ≤ 16) × (a ≡ succeeds (512 * count))
   transferred h t =
-      let p : (lba + count ≤ 16) × (transfer addressed lba count ≡ success (512 * count)) = transfer-success addressed lba count (rw (e ∙ t) at h) in
+      let p : (lba + count ≤ 16) × (transfer addressed lba count ≡ succeeds (512 * count)) = transfer-success addressed lba count (rw (e ∙ t) at h) in
       (p .0, e ∙ t ∙ p .1)
 
   -- the sectors of a transfer lie on the disk, and their bytes in the body
-  pub sectors-inside : Succeeds a → judged command addressed lba count ≡ transfer addressed lba count → lba + count ≤ 16
+  pub sectors-inside : Succeeds a → answerBy command addressed lba count ≡ transfer addressed lba count → lba + count ≤ 16
   sectors-inside h t = transferred h t .0
 
-  pub sectors-room : (m n : ℕ) → Succeeds a → judged command addressed lba count ≡ transfer addressed lba count → a .moved ≤ m → 136 + m ≤ n
+  pub sectors-room : (m n : ℕ) → Succeeds a → answerBy command addressed lba count ≡ transfer addressed lba count → a .moved ≤ m → 136 + m ≤ n
       → 136 + 512 * count ≤ n
   sectors-room m n h t k l =
       let p : a .moved ≡ 512 * count = ap (λ (x : Answer). x .moved) (transferred h t .1) in
@@ -84,7 +84,7 @@ module _ (a : Answer) (command : ℕ) (addressed : Bool) (lba count : ℕ) (e : 
 
   -- the data of ECh lies in the body
   pub identify-room : (m n : ℕ) → command ≡ 0xec → a .moved ≤ m → 136 + m ≤ n → 136 + 512 ≤ n
-  unfolding judged
+  unfolding answerBy
   identify-room m n q k l =
       let p : a .moved ≡ 512 = ap (λ (x : Answer). x .moved) (rw q at e) in
       omega arith

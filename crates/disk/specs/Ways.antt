@@ -12,7 +12,7 @@ use Rattle.laws.specs.Splice.{part, splice, length-part}
 use Rattle.wire.specs.Number.{bytes}
 use Rattle.disk.specs.declared.Answer.{Answer}
 use Rattle.disk.specs.declared.AtaCommand.{AtaCommand}
-use Rattle.disk.specs.Disk.{dataLength, asked, success, transfer, answer, answerTo, identify, sectors, replied, Served, left, acted, served, Lent}
+use Rattle.disk.specs.Disk.{dataLength, ataCommand, succeeds, transfer, answerOf, answerTo, identify, sectors, withStatus, Performed, performs, acted, performed, Lent}
 use Rattle.disk.specs.Stores.{Succeeds, transferred, read-transfers, write-transfers, sectors-inside, sectors-room, identify-room}
 
 no-and : (t : Bool) → t && false ≡ false
@@ -28,17 +28,17 @@ abbrev pub writing : AtaCommand → Answer → Bool
 writing r a = eqb (r .command) 0x30 && eqb (a .status) 0x50
 
 -- what is shown of each: refused; a reply with no data; one with data s; a write
-pub record Ways (disk body : List ℕ) (r : AtaCommand) (a : Answer) (P : Served → Type 0) : Type 0 where
-  pub refused : P (left 3 disk body)
-  pub plain : writing r a ≡ false → P (left 0 disk (replied body r a))
-  pub filled : (s : List ℕ) → writing r a ≡ false → 136 + length s ≤ length body → P (left 0 disk (splice (replied body r a) 136 s))
+pub record Ways (disk body : List ℕ) (r : AtaCommand) (a : Answer) (P : Performed → Type 0) : Type 0 where
+  pub refused : P (performs 3 disk body)
+  pub plain : writing r a ≡ false → P (performs 0 disk (withStatus body r a))
+  pub filled : (s : List ℕ) → writing r a ≡ false → 136 + length s ≤ length body → P (performs 0 disk (splice (withStatus body r a) 136 s))
   pub written : writing r a ≡ true → r .lba + r .count ≤ 16 → 136 + 512 * r .count ≤ length body
-      → P (left 0 (splice disk (512 * r .lba) (part body 136 (512 * r .count))) (replied body r a))
+      → P (performs 0 (splice disk (512 * r .lba) (part body 136 (512 * r .count))) (withStatus body r a))
 
 module _ (disk body : List ℕ) (r : AtaCommand) (a : Answer) (e : a ≡ answerTo r) (h : Lent disk body (r .«data_length»)) where
   -- 20h, ECh and 30h, each where it succeeds
-  reads : (P : Served → Type 0) → Ways disk body r a P → Succeeds a → a .moved ≤ r .«data_length» → r .command ≡ 0x20
-      → P (left 0 disk (splice (replied body r a) 136 (sectors disk r)))
+  reads : (P : Performed → Type 0) → Ways disk body r a P → Succeeds a → a .moved ≤ r .«data_length» → r .command ≡ 0x20
+      → P (performs 0 disk (splice (withStatus body r a) 136 (sectors disk r)))
   reads P w s k c =
       let t : answerTo r ≡ transfer (r .addressed) (r .lba) (r .count) = read-transfers (r .command) (r .addressed) (r .lba) (r .count) c in
       let i : r .lba + r .count ≤ 16 = sectors-inside a (r .command) (r .addressed) (r .lba) (r .count) e s t in
@@ -46,22 +46,22 @@ module _ (disk body : List ℕ) (r : AtaCommand) (a : Answer) (e : a ≡ answerT
       (rw (length-part disk (512 * r .lba) (512 * r .count) (omega arith))
       (sectors-room a (r .command) (r .addressed) (r .lba) (r .count) e (r .«data_length») (length body) s t k (h .1)))
 
-  names : (P : Served → Type 0) → Ways disk body r a P → a .moved ≤ r .«data_length» → r .command ≡ 0xec
-      → P (left 0 disk (splice (replied body r a) 136 identify))
+  names : (P : Performed → Type 0) → Ways disk body r a P → a .moved ≤ r .«data_length» → r .command ≡ 0xec
+      → P (performs 0 disk (splice (withStatus body r a) 136 identify))
   names P w k c =
       w .filled identify (rw c)
       (rw length-identify (identify-room a (r .command) (r .addressed) (r .lba) (r .count) e (r .«data_length») (length body) c k (h .1)))
 
-  stores : (P : Served → Type 0) → Ways disk body r a P → Succeeds a → a .moved ≤ r .«data_length» → r .command ≡ 0x30
-      → P (left 0 (splice disk (512 * r .lba) (part body 136 (512 * r .count))) (replied body r a))
+  stores : (P : Performed → Type 0) → Ways disk body r a P → Succeeds a → a .moved ≤ r .«data_length» → r .command ≡ 0x30
+      → P (performs 0 (splice disk (512 * r .lba) (part body 136 (512 * r .count))) (withStatus body r a))
   stores P w s k c =
       let t : answerTo r ≡ transfer (r .addressed) (r .lba) (r .count) = write-transfers (r .command) (r .addressed) (r .lba) (r .count) c in
-      let p : (r .lba + r .count ≤ 16) × (a ≡ success (512 * r .count)) = transferred a (r .command) (r .addressed) (r .lba) (r .count) e s t in
+      let p : (r .lba + r .count ≤ 16) × (a ≡ succeeds (512 * r .count)) = transferred a (r .command) (r .addressed) (r .lba) (r .count) e s t in
       w .written (rw (c, p .1)) (p .0)
       (sectors-room a (r .command) (r .addressed) (r .lba) (r .count) e (r .«data_length») (length body) s t k (h .1))
 
   -- each test in turn
-  acted-by : (P : Served → Type 0) → Ways disk body r a P → P (acted disk body r a)
+  acted-by : (P : Performed → Type 0) → Ways disk body r a P → P (acted disk body r a)
   unfolding acted
   acted-by P w =
       either-by P (ltb (r .«data_length») (a .moved)) (λ _. w .refused)
@@ -74,6 +74,6 @@ module _ (disk body : List ℕ) (r : AtaCommand) (a : Answer) (e : a ≡ answerT
 
 module _ (disk body : List ℕ) (h : Lent disk body (dataLength body)) where
   -- what is shown of each way holds of the request
-  pub served-by : (P : Served → Type 0) → Ways disk body (asked body) (answer body) P → P (served disk body)
-  unfolding served asked
-  served-by P w = acted-by disk body (asked body) (answer body) refl h P w
+  pub served-by : (P : Performed → Type 0) → Ways disk body (ataCommand body) (answerOf body) P → P (performed disk body)
+  unfolding performed ataCommand
+  served-by P w = acted-by disk body (ataCommand body) (answerOf body) refl h P w

@@ -5,7 +5,7 @@ ghost use mathlib.Core.Path.{_≡_};
 ghost use Prim.Native.Nat.{_+_, _*_, _/_, _%_, _≤_};
 ghost use lib.Dec.{eqb};
 ghost use lib.ListN.{length};
-ghost use Rattle.disk.specs.Disk.{countOf, asked, success, failure, transfer, judged};
+ghost use Rattle.disk.specs.Disk.{countOf, ataCommand, succeeds, fails, transfer, answerBy};
 
 fn bit_six(device: u8) -> bool
     ensures { λ r. ⌜ r ≡ eqb (device / 64 % 2) 1 ⌝ }
@@ -29,9 +29,9 @@ fn sector_count(byte: u8) -> u32
 }
 
 // The command FIS starts at 16 of the body, and uDataLength stands at 40.
-pub fn parse(body: &[u8]) -> AtaCommand
+pub fn ata_command(body: &[u8]) -> AtaCommand
     requires { ⌜ 136 ≤ length (now body) ⌝ }
-    ensures { λ r. ⌜ r ≡ asked (now (body .entry)) ⌝ }
+    ensures { λ r. ⌜ r ≡ ataCommand (now (body .entry)) ⌝ }
 {
     AtaCommand {
         command: body[18],
@@ -43,7 +43,7 @@ pub fn parse(body: &[u8]) -> AtaCommand
 }
 
 fn done(moved: u32) -> Answer
-    ensures { λ r. ⌜ r ≡ success moved ⌝ }
+    ensures { λ r. ⌜ r ≡ succeeds moved ⌝ }
 {
     Answer {
         status: 0x50,
@@ -53,7 +53,7 @@ fn done(moved: u32) -> Answer
 }
 
 fn failed(error: u8) -> Answer
-    ensures { λ r. ⌜ r ≡ failure error ⌝ }
+    ensures { λ r. ⌜ r ≡ fails error ⌝ }
 {
     Answer {
         status: 0x51,
@@ -75,8 +75,8 @@ fn transferred(addressed: bool, lba: u32, count: u32) -> Answer
     failed(0x04)
 }
 
-pub fn judge(command: u8, addressed: bool, lba: u32, count: u32) -> Answer
-    ensures { λ r. ⌜ r ≡ judged command addressed lba count ⌝ }
+pub fn answer_by(command: u8, addressed: bool, lba: u32, count: u32) -> Answer
+    ensures { λ r. ⌜ r ≡ answerBy command addressed lba count ⌝ }
 {
     if command == 0x20 {
         return transferred(addressed, lba, count);

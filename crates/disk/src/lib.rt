@@ -2,15 +2,15 @@
 mod fis;
 mod reply;
 
-use fis::judge;
-use fis::parse;
+use fis::answer_by;
+use fis::ata_command;
 use reply::put_identify;
 use reply::put_status;
 ghost use mathlib.Core.Path.{_≡_};
 ghost use Prim.Native.Nat.{_+_, _*_, _≤_};
 ghost use lib.ListN.{length};
 ghost use Rattle.laws.specs.Splice.{part, splice};
-ghost use Rattle.disk.specs.Disk.{dataLength, answerTo, replied, identify, sectors, left, acted, served, Lent};
+ghost use Rattle.disk.specs.Disk.{dataLength, answerTo, withStatus, identify, sectors, performs, acted, performed, Lent};
 
 // What a request asks: the command's code, bit 6 of FIS byte 7, the LBA, the count of sectors, and uDataLength.
 pub struct AtaCommand {
@@ -31,23 +31,28 @@ pub struct Answer {
 // Serves the command in the body of a code 25 request, and gives the return code.
 pub fn command(disk: &mut [u8], body: &mut [u8]) -> u32
     requires { ⌜ Lent (now disk) (now body) (dataLength (now body)) ⌝ }
-    ensures { λ code. ⌜ left code (now (disk .exit)) (now (body .exit)) ≡ served (now (disk .entry)) (now (body .entry)) ⌝ }
+    ensures { λ code. ⌜ performs code (now (disk .exit)) (now (body .exit)) ≡ performed (now (disk .entry)) (now (body .entry)) ⌝ }
 {
-    serve(disk, body, parse(body))
+    perform(disk, body, ata_command(body))
 }
 
-fn serve(disk: &mut [u8], body: &mut [u8], r: AtaCommand) -> u32
+fn perform(disk: &mut [u8], body: &mut [u8], r: AtaCommand) -> u32
     requires { ⌜ Lent (now disk) (now body) (r .«data_length») ⌝ }
-    ensures { λ code. ⌜ left code (now (disk .exit)) (now (body .exit)) ≡ acted (now (disk .entry)) (now (body .entry)) r (answerTo r) ⌝ }
+    ensures { λ code. ⌜ performs code (now (disk .exit)) (now (body .exit)) ≡ acted (now (disk .entry)) (now (body .entry)) r (answerTo r) ⌝ }
 {
-    act(disk, body, r, judge(r.command, r.addressed, r.lba, r.count))
+    act(
+        disk,
+        body,
+        r,
+        answer_by(r.command, r.addressed, r.lba, r.count),
+    )
 }
 
 // Does what the answer promises. Code 3 leaves everything as it was.
 fn act(disk: &mut [u8], body: &mut [u8], r: AtaCommand, a: Answer) -> u32
     requires { ⌜ Lent (now disk) (now body) (r .«data_length») ⌝ }
     requires { ⌜ a ≡ answerTo r ⌝ }
-    ensures { λ code. ⌜ left code (now (disk .exit)) (now (body .exit)) ≡ acted (now (disk .entry)) (now (body .entry)) r a ⌝ }
+    ensures { λ code. ⌜ performs code (now (disk .exit)) (now (body .exit)) ≡ acted (now (disk .entry)) (now (body .entry)) r a ⌝ }
 {
     if r.data_length < a.moved {
         return codes::INVALID_PARAMETER;
@@ -76,7 +81,7 @@ fn act(disk: &mut [u8], body: &mut [u8], r: AtaCommand, a: Answer) -> u32
 fn read(disk: &[u8], body: &mut [u8], r: AtaCommand, a: Answer)
     requires { ⌜ Lent (now disk) (now body) (512 * r .count) ⌝ }
     requires { ⌜ r .lba + r .count ≤ 16 ⌝ }
-    ensures { λ _. ⌜ now (body .exit) ≡ splice (replied (now (body .entry)) r a) 136 (sectors (now (disk .entry)) r) ⌝ }
+    ensures { λ _. ⌜ now (body .exit) ≡ splice (withStatus (now (body .entry)) r a) 136 (sectors (now (disk .entry)) r) ⌝ }
 {
     let at = 512 * r.lba as usize;
     let bytes = 512 * r.count as usize;
@@ -87,7 +92,7 @@ fn read(disk: &[u8], body: &mut [u8], r: AtaCommand, a: Answer)
 // ECh: what the disk says of itself goes to the start of bDataBuffer.
 fn describe(body: &mut [u8], r: AtaCommand, a: Answer)
     requires { ⌜ 136 + 512 ≤ length (now body) ⌝ }
-    ensures { λ _. ⌜ now (body .exit) ≡ splice (replied (now (body .entry)) r a) 136 identify ⌝ }
+    ensures { λ _. ⌜ now (body .exit) ≡ splice (withStatus (now (body .entry)) r a) 136 identify ⌝ }
 {
     put_status(body, r, a);
     put_identify(body);
@@ -98,7 +103,7 @@ fn write(disk: &mut [u8], body: &mut [u8], r: AtaCommand, a: Answer)
     requires { ⌜ Lent (now disk) (now body) (512 * r .count) ⌝ }
     requires { ⌜ r .lba + r .count ≤ 16 ⌝ }
     ensures { λ _. ⌜ now (disk .exit) ≡ splice (now (disk .entry)) (512 * r .lba) (part (now (body .entry)) 136 (512 * r .count)) ⌝ }
-    ensures { λ _. ⌜ now (body .exit) ≡ replied (now (body .entry)) r a ⌝ }
+    ensures { λ _. ⌜ now (body .exit) ≡ withStatus (now (body .entry)) r a ⌝ }
 {
     let at = 512 * r.lba as usize;
     let bytes = 512 * r.count as usize;

@@ -5,7 +5,7 @@ ghost use mathlib.Core.Path.{_≡_};
 ghost use Prim.Native.Nat.{_+_, _≤_};
 ghost use lib.ListN.{length};
 ghost use Rattle.laws.specs.Splice.{splice};
-ghost use Rattle.disk.specs.Disk.{byteTwelve, statusOf, replied, identify};
+ghost use Rattle.disk.specs.Disk.{byteTwelve, statusOf, withStatus, identify};
 
 // Byte 12 of the status FIS: E5h reports the disk active there, and another command its count.
 fn byte_twelve(command: u8, byte: u8) -> u8
@@ -34,7 +34,7 @@ fn status(body: &[u8], twelve: u8, a: Answer) -> [u8; 92]
 
 pub fn put_status(body: &mut [u8], r: AtaCommand, a: Answer)
     requires { ⌜ 136 ≤ length (now body) ⌝ }
-    ensures { λ _. ⌜ now (body .exit) ≡ replied (now (body .entry)) r a ⌝ }
+    ensures { λ _. ⌜ now (body .exit) ≡ withStatus (now (body .entry)) r a ⌝ }
 {
     let s = status(body, byte_twelve(r.command, body[28]), a);
     wire::copy_at(body, 44, &s);

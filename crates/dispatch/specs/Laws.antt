@@ -22,7 +22,7 @@ use Rattle.state.specs.State.{State, stateWith, stateSize, stateOf, stateHolds}
 use Rattle.state.specs.Laws.{lent-tables, state-back, state-phys, state-rows}
 use Rattle.adapter.specs.Adapter.{Adapter, mediumSize}
 use Rattle.service.specs.Serve.{Store, serves, served}
-use Rattle.dispatch.specs.Request.{Request, requestOf, formOf, controlOf, bodyOf, checksCode, needAbove, Point, pointOf, point, outcome, stateNumber, bufferNumber, pointNumber, callNumber, untouched, answer, inBuffer, refused, answered, replied, answeredAt, handled, RequestCall}
+use Rattle.dispatch.specs.Request.{Request, requestOf, formOf, controlOf, bodyOf, checksCode, needAbove, Point, pointOf, point, outcome, stateNumber, bufferNumber, pointNumber, callNumber, untouched, pending, inBuffer, refusedRequest, answered, replied, answeredAt, handled, RequestCall}
 
 -- ---- the body, lent as the rest of the buffer
 
@@ -35,7 +35,7 @@ module _ (buffer : List ℕ) (code : ℕ) (e : code ≡ controlOf (requestOf buf
   body-room h = rw (rest, e) h
 
   pub body-back : (ad bd : Adapter) (answer′ : ℕ) (store store′ : Store) (body : List ℕ) → serves answer′ bd store′ body ≡ served ad store code lent
-      → answer answer′ bd store′ (take (srb .size) buffer ++ (body ++ drop (length buffer - srb .size) (drop (srb .size) buffer)))
+      → pending answer′ bd store′ (take (srb .size) buffer ++ (body ++ drop (length buffer - srb .size) (drop (srb .size) buffer)))
       ≡ inBuffer (requestOf buffer) (served ad store (controlOf (requestOf buffer)) (bodyOf (requestOf buffer)))
   body-back ad bd answer′ store store′ body p = rw (rest-end buffer (srb .size), append-nil) (ap (inBuffer (requestOf buffer)) (rw (rest, e) at p))
 
@@ -110,13 +110,13 @@ module _ (s : State) (medium buffer call : ℕ) (e : call ≡ bufferNumber srb (
 
 -- ---- a code that a callee gave
 
-pub refused-by : (code n : ℕ) (ad : Adapter) (store : Store) (buffer : List ℕ) → code ≡ n → answer code ad store buffer ≡ refused n ad store (requestOf buffer)
+pub refused-by : (code n : ℕ) (ad : Adapter) (store : Store) (buffer : List ℕ) → code ≡ n → pending code ad store buffer ≡ refusedRequest n ad store (requestOf buffer)
 refused-by code n ad store buffer e = rw e
 
 -- ---- an answer whose return code was written
 
 pub reply-by : (level : Level) (ad bd : Adapter) (code : ℕ) (store store′ : Store) (buffer buffer′ reply : List ℕ)
-    → answer code bd store′ buffer′ ≡ answered ad store (requestOf buffer) (checksCode level (requestOf buffer)) → reply ≡ withCode srb buffer′ code
+    → pending code bd store′ buffer′ ≡ answered ad store (requestOf buffer) (checksCode level (requestOf buffer)) → reply ≡ withCode srb buffer′ code
     → outcome 0 (point (stateWith level bd) store′) reply ≡ answeredAt (point (stateWith level ad) store) (requestOf buffer)
 unfolding answeredAt
 reply-by level ad bd code store store′ buffer buffer′ reply p q = rw q (ap (replied srb level) p)

@@ -6,7 +6,7 @@ use mathlib.Core.List.{List, _++_}
 use Prim.Native.Nat.{ℕ}
 use lib.Dec.{eqb, ltb}
 use lib.ListN.{length, take}
-use Rattle.codes.specs.Codes.{success, shortBuffer, mediumLength, badState}
+use Rattle.codes.specs.Codes.{success, shortBuffer, badMediumLength, badState}
 use Rattle.level.specs.declared.Level.{Level}
 use Rattle.state.specs.State.{State, stateWith, stateSize, stateOf, stateHolds}
 use Rattle.adapter.specs.Adapter.{Adapter, mediumSize}
@@ -67,7 +67,7 @@ outcome call p buffer = record { call = call; point = p; buffer = buffer }
 
 -- "state; medium length": the call's number of the first that fails, or 0. Nothing of the request is looked at
 unfoldable pub stateNumber : State → ℕ → ℕ
-stateNumber s medium = cond (stateHolds s) (cond (eqb (mediumSize (s .adapter)) medium) 0 mediumLength) badState
+stateNumber s medium = cond (stateHolds s) (cond (eqb (mediumSize (s .adapter)) medium) 0 badMediumLength) badState
 
 abbrev pub pointNumber : Point → ℕ
 pointNumber p = stateNumber (p .state) (length (p .store .medium))
@@ -87,29 +87,29 @@ untouched call p r = outcome call p (r .buffer)
 -- ---- the return code and the effect
 
 -- the return code, the tables and counters, what is stored beside them, and the buffer before its return code is written
-pub record Answer : Type 0 where
+pub record Pending : Type 0 where
   pub code : ℕ
   pub adapter : Adapter
   pub store : Store
   pub buffer : List ℕ
 
-abbrev pub answer : ℕ → Adapter → Store → List ℕ → Answer
-answer code ad store buffer = record { code = code; adapter = ad; store = store; buffer = buffer }
+abbrev pub pending : ℕ → Adapter → Store → List ℕ → Pending
+pending code ad store buffer = record { code = code; adapter = ad; store = store; buffer = buffer }
 
 -- the body back behind its header
-abbrev pub inBuffer : Request → Served → Answer
-inBuffer r s = answer (s .code) (s .adapter) (s .store) (take (formOf r .size) (r .buffer) ++ s .body)
+abbrev pub inBuffer : Request → Served → Pending
+inBuffer r s = pending (s .code) (s .adapter) (s .store) (take (formOf r .size) (r .buffer) ++ s .body)
 
 -- a request that a check up to the level refuses: nothing is changed but the code, which is still to be written
-abbrev pub refused : ℕ → Adapter → Store → Request → Answer
-refused code ad store r = answer code ad store (r .buffer)
+abbrev pub refusedRequest : ℕ → Adapter → Store → Request → Pending
+refusedRequest code ad store r = pending code ad store (r .buffer)
 
 -- "then the code's own checks", where the checks up to the level gave 0; else their code
-unfoldable pub answered : Adapter → Store → Request → ℕ → Answer
-answered ad store r code = cond (eqb code success) (inBuffer r (served ad store (controlOf r) (bodyOf r))) (refused code ad store r)
+unfoldable pub answered : Adapter → Store → Request → ℕ → Pending
+answered ad store r code = cond (eqb code success) (inBuffer r (served ad store (controlOf r) (bodyOf r))) (refusedRequest code ad store r)
 
 -- the return code in its place, and "The call's number is 0 when a return code is written"
-abbrev pub replied : Form → Level → Answer → Outcome
+abbrev pub replied : Form → Level → Pending → Outcome
 replied f level a = outcome 0 (point (stateWith level (a .adapter)) (a .store)) (withCode f (a .buffer) (a .code))
 
 -- a buffer with room for its header: the checks from HeaderLength on, and the return code written

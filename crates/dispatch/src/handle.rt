@@ -10,7 +10,7 @@ ghost use Rattle.header.specs.Table.{structureSize, dataSize};
 ghost use Rattle.header.specs.Form.{srb, returnCode, withCode};
 ghost use Rattle.service.specs.Serve.{storeOf, served};
 ghost use Rattle.state.specs.State.{stateWith, stateSize, stateOf, stateHolds};
-ghost use Rattle.dispatch.specs.Request.{requestOf, controlOf, bodyOf, checksCode, pointOf, outcome, stateNumber, bufferNumber, answer, inBuffer, answered, answeredAt, handled, RequestCall};
+ghost use Rattle.dispatch.specs.Request.{requestOf, controlOf, bodyOf, checksCode, pointOf, outcome, stateNumber, bufferNumber, pending, inBuffer, answered, answeredAt, handled, RequestCall};
 
 // The body behind the header is lent to the code's own checks and effect.
 fn serve_body(tables: &mut [u8], medium: &mut [u8], buffer: &mut [u8]) -> u32
@@ -20,7 +20,7 @@ fn serve_body(tables: &mut [u8], medium: &mut [u8], buffer: &mut [u8]) -> u32
     requires { ⌜ srb .size ≤ length (now buffer) ⌝ }
     requires { ⌜ structureSize (controlOf (requestOf (now buffer))) + dataSize (controlOf (requestOf (now buffer))) (bodyOf (requestOf (now buffer)))
         ≤ length (bodyOf (requestOf (now buffer))) ⌝ }
-    ensures { λ code. ⌜ answer code (tablesOf (now (tables .exit))) (storeOf (now (medium .exit))) (now (buffer .exit))
+    ensures { λ code. ⌜ pending code (tablesOf (now (tables .exit))) (storeOf (now (medium .exit))) (now (buffer .exit))
         ≡ inBuffer (requestOf (now (buffer .entry))) (served (tablesOf (now (tables .entry))) (storeOf (now (medium .entry))) (controlOf (requestOf (now (buffer .entry)))) (bodyOf (requestOf (now (buffer .entry))))) ⌝ }
 {
     let control = header::control_code(buffer);
@@ -33,7 +33,7 @@ fn check_and_serve(level: Level, tables: &mut [u8], medium: &mut [u8], buffer: &
     requires { ⌜ (tablesOf (now tables) .«phy_count» ≤ 32) × (tablesOf (now tables) .«row_count» ≤ 64) ⌝ }
     requires { ⌜ length (now medium) ≡ mediumSize (tablesOf (now tables)) ⌝ }
     requires { ⌜ srb .size ≤ length (now buffer) ⌝ }
-    ensures { λ code. ⌜ answer code (tablesOf (now (tables .exit))) (storeOf (now (medium .exit))) (now (buffer .exit))
+    ensures { λ code. ⌜ pending code (tablesOf (now (tables .exit))) (storeOf (now (medium .exit))) (now (buffer .exit))
         ≡ answered (tablesOf (now (tables .entry))) (storeOf (now (medium .entry))) (requestOf (now (buffer .entry))) (checksCode level (requestOf (now (buffer .entry)))) ⌝ }
 {
     let code = header::access_code(level, buffer);
@@ -90,7 +90,7 @@ pub fn state_number(state: &[u8], medium: usize) -> u32
         if state::medium_size(state) == medium {
             return 0;
         }
-        return codes::MEDIUM_LENGTH;
+        return codes::BAD_MEDIUM_LENGTH;
     }
     codes::BAD_STATE
 }

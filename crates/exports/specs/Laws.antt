@@ -16,14 +16,14 @@ use Rattle.state.specs.State.{State, stateSize, stateOf, stateHolds}
 use Rattle.state.specs.Laws.{state-phys}
 use Rattle.state.specs.Open.{Opened, OpenCall}
 use Rattle.adapter.specs.Adapter.{mediumSize}
-use Rattle.tables.specs.Laws.{length-phys, length-entity}
+use Rattle.tables.specs.Laws.{tables-phys, tables-entity}
 use Rattle.header.specs.Form.{srb, returnCode}
 use Rattle.dispatch.specs.Request.{Request, requestOf, Point, pointOf, Outcome, outcome, stateNumber, bufferNumber, pointNumber, callNumber, untouched, answeredAt, handled}
 use Rattle.dispatch.specs.Laws.{heard-state, heard-medium, heard-room}
 use Rattle.claims.specs.Run.{Reply, Entry, End, replyOf, step, entryOf, run}
 use Rattle.claims.specs.Moved.{Sized}
 use Rattle.claims.specs.Reached.{refused-stays, number-step}
-use Rattle.exports.specs.Session.{sizeOf, wholeFirst, firstOf, behindFirst, requestsOf, withReplies, codeOf, lineOf, linesOf, Ran, ran, shown, ranFrom, sessionRun, endFrom, Left, left, afterRequest, behindLength, afterSized}
+use Rattle.exports.specs.Session.{sizeOf, wholeFirst, firstOf, behindFirst, requestsOf, withReplies, codeOf, lineOf, linesOf, Ran, ran, shown, ranFrom, sessionRun, endFrom, Recorded, records, afterRequest, behindLength, afterSized}
 
 -- ---- where a request ends
 
@@ -96,12 +96,12 @@ module _ (s : State) (medium buffer : List ℕ) (number call : ℕ) (n : number 
   numbered = rw (← n, e) refl
 
   -- it is answered
-  pub handled-replied : (l : Left) → call ≡ 0 → l ≡ afterRequest (answeredAt p (requestOf buffer)) → l ≡ afterRequest (handled p (requestOf buffer))
+  pub handled-replied : (l : Recorded) → call ≡ 0 → l ≡ afterRequest (answeredAt p (requestOf buffer)) → l ≡ afterRequest (handled p (requestOf buffer))
   unfolding handled
   handled-replied l z q = rw (numbered, z) q
 
   -- or the call gives a number, and nothing is written but that
-  pub handled-refused : (line : List ℕ) → (call ≡ 0 → ⊥) → line ≡ bytes 4 call ++ bytes 4 4294967295 → left p buffer line ≡ afterRequest (handled p (requestOf buffer))
+  pub handled-refused : (line : List ℕ) → (call ≡ 0 → ⊥) → line ≡ bytes 4 call ++ bytes 4 4294967295 → records p buffer line ≡ afterRequest (handled p (requestOf buffer))
   unfolding handled codeOf
   handled-refused line h q =
       let o : handled p (requestOf buffer) ≡ untouched call p (requestOf buffer) = rw (numbered, ne-eqb call 0 h) refl in
@@ -109,14 +109,14 @@ module _ (s : State) (medium buffer : List ℕ) (number call : ℕ) (n : number 
 
 -- what an answered request and its line leave
 pub replied-left : (p : Point) (o : Outcome) (code : ℕ) (buffer line : List ℕ) → outcome 0 p buffer ≡ o → code ≡ returnCode srb buffer
-    → line ≡ bytes 4 0 ++ bytes 4 code → left p buffer line ≡ afterRequest o
+    → line ≡ bytes 4 0 ++ bytes 4 code → records p buffer line ≡ afterRequest o
 unfolding codeOf
 replied-left p o code buffer line e c q = rw (q, c) (ap (λ (x : Outcome). afterRequest x) e)
 
 -- the same behind its length
 pub sized-left : (p q : Point) (request buffer line : List ℕ)
-    → left q buffer line ≡ afterRequest (handled p (requestOf (take (length request - 4) (drop 4 request))))
-    → left q (take 4 request ++ (buffer ++ drop (length request - 4) (drop 4 request))) line ≡ afterSized p request
+    → records q buffer line ≡ afterRequest (handled p (requestOf (take (length request - 4) (drop 4 request))))
+    → records q (take 4 request ++ (buffer ++ drop (length request - 4) (drop 4 request))) line ≡ afterSized p request
 unfolding afterSized
 sized-left p q request buffer line e = rw (rest-end request 4, append-nil) (ap (behindLength (take 4 request)) (rw rest at e))
 
@@ -193,8 +193,8 @@ sized-lent : (t : List ℕ) → length t ≡ stateSize → stateHolds (stateOf t
 unfolding stateOf
 sized-lent t e h =
     record {
-      phys = length-phys (drop 1 t);
-      entities = λ n l. length-entity (drop 1 t) n (rw (length-drop, e) refl) (omega (arith, state-phys (stateOf t) true (sym h) refl));
+      phys = tables-phys (drop 1 t);
+      entities = λ n l. tables-entity (drop 1 t) n (rw (length-drop, e) refl) (omega (arith, state-phys (stateOf t) true (sym h) refl));
     }
 
 -- the number of the state and the medium stays; a state that 107 refuses is not touched
@@ -210,11 +210,11 @@ number-kept t medium request e =
     (stateHolds (stateOf t)) refl
 
 pub number-next : (t t′ medium medium′ request request′ line : List ℕ) (number : ℕ)
-    → left (pointOf (stateOf t′) medium′) request′ line ≡ afterSized (pointOf (stateOf t) medium) request
+    → records (pointOf (stateOf t′) medium′) request′ line ≡ afterSized (pointOf (stateOf t) medium) request
     → length t ≡ stateSize → number ≡ stateNumber (stateOf t) (length medium) → number ≡ stateNumber (stateOf t′) (length medium′)
 unfolding afterSized
 number-next t t′ medium medium′ request request′ line number p e n =
-    n ∙ sym (number-kept t medium (drop 4 request) e) ∙ sym (ap (λ (l : Left). pointNumber (l .point)) p)
+    n ∙ sym (number-kept t medium (drop 4 request) e) ∙ sym (ap (λ (l : Recorded). pointNumber (l .point)) p)
 
 -- nothing is done at the start
 pub run-starts : (room : ℕ) (p : Point) (session lines : List ℕ)
@@ -249,7 +249,7 @@ module _ (r : Ran) (s : State) (medium session lines : List ℕ) (at count room 
 
     -- a request is handled
     module _ (end : ℕ) (e : end ≡ endFrom session at) (h : (end ≡ at → ⊥)) (k : end ≤ length session) (room′ : 8 * room ≤ length lines) (c : count < room)
-        (q : Point) (request line : List ℕ) (f : left q request line ≡ afterSized here (take (end - at) (drop at session)))
+        (q : Point) (request line : List ℕ) (f : records q request line ≡ afterSized here (take (end - at) (drop at session)))
         (l : length request ≡ length (take (end - at) (drop at session)))
       where
         abbrev session′ : List ℕ
@@ -263,9 +263,9 @@ module _ (r : Ran) (s : State) (medium session lines : List ℕ) (at count room 
             let o : Outcome = handled here (requestOf (firstOf (drop at session))) in
             let x : end ≡ at + (4 + sizeOf (drop at session)) = whole-at session at end e h .1 in
             let n : end - at ≡ 4 + sizeOf (drop at session) = omega arith in
-            let d : left q request line ≡ behindLength (take 4 (drop at session)) (afterRequest o) = rw n at f ∙ sized-first here (drop at session) in
+            let d : records q request line ≡ behindLength (take 4 (drop at session)) (afterRequest o) = rw n at f ∙ sized-first here (drop at session) in
             let size : length request ≡ end - at = l ∙ length-take-le (end - at) (drop at session) (rw length-drop (omega arith)) in
-            let eight : length line ≡ 8 = ap (λ (x : Left). length (x .line)) d ∙ length-line (replyOf o) in
+            let eight : length line ≡ 8 = ap (λ (x : Recorded). length (x .line)) d ∙ length-line (replyOf o) in
             let front : length (take at session) ≡ at = length-take-le at session (omega arith) in
             let before : length (take (8 * count) lines) ≡ 8 * count = length-take-le (8 * count) lines (omega arith) in
             let a : length (take at session) + length request ≡ end = rw (front, size) (omega arith) in
@@ -284,7 +284,7 @@ module _ (r : Ran) (s : State) (medium session lines : List ℕ) (at count room 
             ∙ ap (behind count (take at session) (take (8 * count) lines)) (rw m (ran-more (room - (count + 1)) here (drop at session) (drop (8 * count) lines) (whole-at session at end e h .0)))
             ∙ behind-behind count (take at session) (take 4 (drop at session) ++ o .buffer) (take (8 * count) lines) (lineOf (replyOf o))
             (ranFrom (room - (count + 1)) (o .point) (behindFirst (drop at session)) (drop 8 (drop (8 * count) lines)))
-            ∙ sym (ap (λ (x : Left). behind (count + 1) (take at session ++ x .bytes) (take (8 * count) lines ++ x .line)
+            ∙ sym (ap (λ (x : Recorded). behind (count + 1) (take at session ++ x .bytes) (take (8 * count) lines ++ x .line)
             (ranFrom (room - (count + 1)) (x .point) (behindFirst (drop at session)) (drop 8 (drop (8 * count) lines)))) d))
 
 -- ---- the whole run

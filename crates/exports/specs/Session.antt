@@ -83,22 +83,22 @@ unfoldable pub endFrom : List ℕ → ℕ → ℕ
 endFrom session at = cond (wholeFirst (drop at session)) (at + (4 + sizeOf (drop at session))) at
 
 -- what one request leaves: the state and the medium, the bytes that it stands in, and its line of the record
-pub record Left : Type 0 where
+pub record Recorded : Type 0 where
   pub point : Point
   pub bytes : List ℕ
   pub line : List ℕ
 
-abbrev pub left : Point → List ℕ → List ℕ → Left
-left p bytes line = record { point = p; bytes = bytes; line = line }
+abbrev pub records : Point → List ℕ → List ℕ → Recorded
+records p bytes line = record { point = p; bytes = bytes; line = line }
 
 -- in a buffer of its own
-abbrev pub afterRequest : Outcome → Left
-afterRequest o = left (o .point) (o .buffer) (lineOf (replyOf o))
+abbrev pub afterRequest : Outcome → Recorded
+afterRequest o = records (o .point) (o .buffer) (lineOf (replyOf o))
 
 -- behind the bytes of its length
-abbrev pub behindLength : List ℕ → Left → Left
-behindLength size l = left (l .point) (size ++ l .bytes) (l .line)
+abbrev pub behindLength : List ℕ → Recorded → Recorded
+behindLength size l = records (l .point) (size ++ l .bytes) (l .line)
 
 -- what a request with its length before it leaves
-unfoldable pub afterSized : Point → List ℕ → Left
+unfoldable pub afterSized : Point → List ℕ → Recorded
 afterSized p request = behindLength (take 4 request) (afterRequest (handled p (requestOf (drop 4 request))))

@@ -9,7 +9,7 @@ ghost use Rattle.adapter.specs.Adapter.{mediumSize};
 ghost use Rattle.state.specs.State.{stateSize, stateOf, stateHolds};
 ghost use Rattle.header.specs.Form.{srb};
 ghost use Rattle.dispatch.specs.Request.{requestOf, pointOf, stateNumber, answeredAt, handled};
-ghost use Rattle.exports.specs.Session.{endFrom, left, afterRequest, afterSized, ran, ranFrom};
+ghost use Rattle.exports.specs.Session.{endFrom, records, afterRequest, afterSized, ran, ranFrom};
 
 // What a line of the record has where no return code was written.
 const NO_CODE: u32 = 4294967295;
@@ -41,13 +41,13 @@ fn write_line(line: &mut [u8], call: u32, code: u32)
 }
 
 // Handles a request that passed the checks of the call, and writes its line.
-fn reply(state: &mut [u8], medium: &mut [u8], buffer: &mut [u8], line: &mut [u8])
+fn record_reply(state: &mut [u8], medium: &mut [u8], buffer: &mut [u8], line: &mut [u8])
     requires { ⌜ length (now state) ≡ stateSize ⌝ }
     requires { ⌜ stateHolds (stateOf (now state)) ≡ true ⌝ }
     requires { ⌜ length (now medium) ≡ mediumSize (stateOf (now state) .adapter) ⌝ }
     requires { ⌜ srb .size ≤ length (now buffer) ⌝ }
     requires { ⌜ length (now line) ≡ 8 ⌝ }
-    ensures { λ _. ⌜ left (pointOf (stateOf (now (state .exit))) (now (medium .exit))) (now (buffer .exit)) (now (line .exit))
+    ensures { λ _. ⌜ records (pointOf (stateOf (now (state .exit))) (now (medium .exit))) (now (buffer .exit)) (now (line .exit))
         ≡ afterRequest (answeredAt (pointOf (stateOf (now (state .entry))) (now (medium .entry))) (requestOf (now (buffer .entry)))) ⌝ }
 {
     let code = dispatch::reply(state, medium, buffer);
@@ -55,22 +55,28 @@ fn reply(state: &mut [u8], medium: &mut [u8], buffer: &mut [u8], line: &mut [u8]
 }
 
 // Handles a request, and writes its line. `number` is that of the state and the medium.
-fn handle(number: u32, state: &mut [u8], medium: &mut [u8], buffer: &mut [u8], line: &mut [u8])
+fn record_request(
+    number: u32,
+    state: &mut [u8],
+    medium: &mut [u8],
+    buffer: &mut [u8],
+    line: &mut [u8],
+)
     requires { ⌜ length (now state) ≡ stateSize ⌝ }
     requires { ⌜ number ≡ stateNumber (stateOf (now state)) (length (now medium)) ⌝ }
     requires { ⌜ length (now line) ≡ 8 ⌝ }
-    ensures { λ _. ⌜ left (pointOf (stateOf (now (state .exit))) (now (medium .exit))) (now (buffer .exit)) (now (line .exit))
+    ensures { λ _. ⌜ records (pointOf (stateOf (now (state .exit))) (now (medium .exit))) (now (buffer .exit)) (now (line .exit))
         ≡ afterRequest (handled (pointOf (stateOf (now (state .entry))) (now (medium .entry))) (requestOf (now (buffer .entry)))) ⌝ }
 {
     let call = dispatch::buffer_number(number, buffer.len());
     if call == 0 {
-        return reply(state, medium, buffer, line);
+        return record_reply(state, medium, buffer, line);
     }
     write_line(line, call, NO_CODE)
 }
 
 // The same of a request behind its length.
-fn handle_sized(
+fn record_sized(
     number: u32,
     state: &mut [u8],
     medium: &mut [u8],
@@ -81,10 +87,10 @@ fn handle_sized(
     requires { ⌜ number ≡ stateNumber (stateOf (now state)) (length (now medium)) ⌝ }
     requires { ⌜ 4 ≤ length (now request) ⌝ }
     requires { ⌜ length (now line) ≡ 8 ⌝ }
-    ensures { λ _. ⌜ left (pointOf (stateOf (now (state .exit))) (now (medium .exit))) (now (request .exit)) (now (line .exit))
+    ensures { λ _. ⌜ records (pointOf (stateOf (now (state .exit))) (now (medium .exit))) (now (request .exit)) (now (line .exit))
         ≡ afterSized (pointOf (stateOf (now (state .entry))) (now (medium .entry))) (now (request .entry)) ⌝ }
 {
-    handle(number, state, medium, &mut request[4..], line)
+    record_request(number, state, medium, &mut request[4..], line)
 }
 
 // Handles the requests of a session in order, until none is whole or the record is full, and gives their number. The rules of the state
@@ -105,7 +111,7 @@ pub fn run(state: &mut [u8], medium: &mut [u8], session: &mut [u8], lines: &mut 
         }
         let line = 8 * count;
         count += 1;
-        handle_sized(
+        record_sized(
             number,
             state,
             medium,

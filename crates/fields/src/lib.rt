@@ -93,7 +93,7 @@ fn attached_holds(phy: Phy) -> bool
     device_holds(phy)
 }
 
-fn signature_holds(phy: Phy) -> bool
+fn held_signature_holds(phy: Phy) -> bool
     ensures { λ r. ⌜ r ≡ signatureHold phy ⌝ }
 {
     if phy.held == 1 {
@@ -111,5 +111,5 @@ pub fn fields_hold(phy: Phy, n: PhyIdentifier, p: u8) -> bool
         & attached_holds(phy)
         & (phy.held <= 1)
         & (phy.fixed <= 1)
-        & signature_holds(phy)
+        & held_signature_holds(phy)
 }

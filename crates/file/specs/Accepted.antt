@@ -18,7 +18,7 @@ use Rattle.rows.specs.Row.{noRow, zeroRow, zero-by}
 use Rattle.layout.specs.Layout.{phyCount, rowCount, blocks, fileLength}
 use Rattle.layout.specs.Unnamed.{unnamedZero}
 use Rattle.adapter.specs.Adapter.{phyIn, countsHold, fieldsAll, zeroPast}
-use Rattle.file.specs.File.{FileRead, phyAt, rowAt, adapterOf, fileRead, countsRead, lengthRead, fieldsRead}
+use Rattle.file.specs.File.{FileRead, filePhy, fileRow, adapterOf, fileRead, countsRead, lengthRead, fieldsRead}
 
 -- what is known of a file that passed
 pub record Accepted (file : List ℕ) : Type 0 where
@@ -53,15 +53,15 @@ pub zero-read : (file : List ℕ) (p a : ℕ) → zeroPast (adapterOf file p a) 
 unfolding adapterOf zeroPast
 zero-read file p a =
     both _ _
-    (all-by (λ (i : ℕ). phyZero (getD (padded (phyAt file) p 32 zeroPhy) (p + i) noPhy)) (32 - p)
-    (λ i l. ap phyZero (getD-past (phyAt file) p 32 (p + i) zeroPhy noPhy (omega arith) (omega arith)) ∙ zero-phy))
-    (zero-by (padded (rowAt file p) a 64 zeroRow) a (λ i h k. getD-past (rowAt file p) a 64 i zeroRow noRow h k))
+    (all-by (λ (i : ℕ). phyZero (getD (padded (filePhy file) p 32 zeroPhy) (p + i) noPhy)) (32 - p)
+    (λ i l. ap phyZero (getD-past (filePhy file) p 32 (p + i) zeroPhy noPhy (omega arith) (omega arith)) ∙ zero-phy))
+    (zero-by (padded (fileRow file p) a 64 zeroRow) a (λ i h k. getD-past (fileRow file p) a 64 i zeroRow noRow h k))
 
 -- each phy of it
-pub phy-read : (file : List ℕ) (p a n : ℕ) → n < p → phyIn (adapterOf file p a) n ≡ phyAt file n
+pub phy-read : (file : List ℕ) (p a n : ℕ) → n < p → phyIn (adapterOf file p a) n ≡ filePhy file n
 unfolding adapterOf
-phy-read file p a n h = getD-padded (phyAt file) p 32 n zeroPhy noPhy h
+phy-read file p a n h = getD-padded (filePhy file) p 32 n zeroPhy noPhy h
 
 pub length-phys : (file : List ℕ) (p a : ℕ) → p ≤ 32 → length (adapterOf file p a .phys) ≡ 32
 unfolding adapterOf
-length-phys file p a h = length-padded (phyAt file) p 32 zeroPhy h
+length-phys file p a h = length-padded (filePhy file) p 32 zeroPhy h

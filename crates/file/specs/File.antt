@@ -7,7 +7,7 @@ use lib.Dec.{ltb, eqb}
 use lib.ListN.{length}
 use Rattle.laws.specs.Fill.{padded}
 use Rattle.laws.specs.Splice.{part}
-use Rattle.codes.specs.Codes.{fileLength as badLength, blockCheck, badField}
+use Rattle.codes.specs.Codes.{badFileLength, blockCheck, badField}
 use Rattle.block.specs.Check.{blockAt, sound, soundTo}
 use Rattle.phy.specs.declared.Phy.{Phy}
 use Rattle.phy.specs.Block.{phyOf, zeroPhy}
@@ -22,15 +22,15 @@ pub record FileRead : Type 0 where
   pub adapter : Adapter
 
 -- the same, as the code leaves it: its number and the tables
-abbrev pub left : ℕ → Adapter → FileRead
-left call ad = record { call = call; adapter = ad }
+abbrev pub reads : ℕ → Adapter → FileRead
+reads call ad = record { call = call; adapter = ad }
 
 -- "Block 1+n, phy n", and row i of a file with p phys
-unfoldable pub phyAt : List ℕ → ℕ → Phy
-phyAt file n = phyOf (blockAt file (phyBlock n))
+unfoldable pub filePhy : List ℕ → ℕ → Phy
+filePhy file n = phyOf (blockAt file (phyBlock n))
 
-unfoldable pub rowAt : List ℕ → ℕ → ℕ → Row
-rowAt file p i = rowOf file (rowPlace p i)
+unfoldable pub fileRow : List ℕ → ℕ → ℕ → Row
+fileRow file p i = rowOf file (rowPlace p i)
 
 -- "The state is the level and what the file holds, zero past p and a"
 unfoldable pub adapterOf : List ℕ → ℕ → ℕ → Adapter
@@ -39,35 +39,35 @@ adapterOf file p a =
       «phy_count» = p;
       «row_count» = a;
       info = part file 4 174;
-      phys = padded (phyAt file) p 32 zeroPhy;
-      rows = padded (rowAt file p) a 64 zeroRow;
+      phys = padded (filePhy file) p 32 zeroPhy;
+      rows = padded (fileRow file p) a 64 zeroRow;
     }
 
 -- "A refused opening returns the zero state, p = 0"
-abbrev pub refused : ℕ → FileRead
-refused call = left call zeroAdapter
+abbrev pub refusedFile : ℕ → FileRead
+refusedFile call = reads call zeroAdapter
 
 -- the adapter, or 104 where it breaks a rule: "count or field"
 abbrev pub judged : Bool → Adapter → FileRead
-judged ok ad = cond ok (left 0 ad) (refused badField)
+judged ok ad = cond ok (reads 0 ad) (refusedFile badField)
 
 -- "Opening checks, in order: .. file under 512 bytes; block 0's check; p and a; file length; other checks, lowest block
 -- first; fields". Each definition below is what is left to do from one check on, the last checks first.
 -- "other checks" and "fields", with which the unnamed bytes are tested
 unfoldable pub fieldsRead : List ℕ → ℕ → ℕ → FileRead
 fieldsRead file p a =
-    cond (soundTo file (blocks p a)) (judged (unnamedZero file p a && fieldsAll (adapterOf file p a)) (adapterOf file p a)) (refused blockCheck)
+    cond (soundTo file (blocks p a)) (judged (unnamedZero file p a && fieldsAll (adapterOf file p a)) (adapterOf file p a)) (refusedFile blockCheck)
 
 -- "file length", and what follows it
 unfoldable pub lengthRead : List ℕ → ℕ → ℕ → FileRead
-lengthRead file p a = cond (eqb (fileLength p a) (length file)) (fieldsRead file p a) (refused badLength)
+lengthRead file p a = cond (eqb (fileLength p a) (length file)) (fieldsRead file p a) (refusedFile badFileLength)
 
 -- "p and a", and what follows them
 unfoldable pub countsRead : List ℕ → ℕ → ℕ → FileRead
-countsRead file p a = cond (countsHold p a) (lengthRead file p a) (refused badField)
+countsRead file p a = cond (countsHold p a) (lengthRead file p a) (refusedFile badField)
 
 -- "file under 512 bytes; block 0's check", and what follows them: all of it
 unfoldable pub fileRead : List ℕ → FileRead
 fileRead file =
-    cond (ltb (length file) 512) (refused badLength)
-    (cond (sound (blockAt file 0) 0) (countsRead file (phyCount file) (rowCount file)) (refused blockCheck))
+    cond (ltb (length file) 512) (refusedFile badFileLength)
+    (cond (sound (blockAt file 0) 0) (countsRead file (phyCount file) (rowCount file)) (refusedFile blockCheck))

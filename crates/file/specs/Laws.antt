@@ -9,7 +9,7 @@ use Rattle.laws.specs.Splice.{splice}
 use Rattle.layout.specs.Layout.{rowPlace, fileLength}
 use Rattle.tables.specs.Tables.{tablesSize, tablesOf}
 use Rattle.tables.specs.Zero.{zero-tables}
-use Rattle.file.specs.File.{adapterOf, left, refused}
+use Rattle.file.specs.File.{adapterOf, reads, refusedFile}
 
 -- row i of `a` rows stands within the file
 pub row-within : (l : List ℕ) (p a i : ℕ) → i < a → length l ≡ fileLength p a → rowPlace p i + 20 ≤ length l
@@ -21,5 +21,5 @@ unfolding adapterOf
 count-read file t p a h e = rw e h
 
 -- tables that were cleared
-pub refused-left : (t s : List ℕ) (call : ℕ) → length t ≡ tablesSize → s ≡ splice t 0 (zeros tablesSize) → left call (tablesOf s) ≡ refused call
-refused-left t s call e q = ap (left call) (ap tablesOf (cleared-all t s tablesSize e q) ∙ zero-tables)
+pub refused-left : (t s : List ℕ) (call : ℕ) → length t ≡ tablesSize → s ≡ splice t 0 (zeros tablesSize) → reads call (tablesOf s) ≡ refusedFile call
+refused-left t s call e q = ap (reads call) (ap tablesOf (cleared-all t s tablesSize e q) ∙ zero-tables)

@@ -13,9 +13,9 @@ use Rattle.rows.specs.Row.{rowOf, rowsSize, rowStart, rowsOf, zeroRow, noRow}
 use Rattle.rows.specs.Read.{row-part}
 use Rattle.block.specs.Check.{blockAt}
 use Rattle.layout.specs.Layout.{phyPlace, rowPlace, fileLength}
-use Rattle.tables.specs.Tables.{tablesSize, infoStart, phyStart, rowsStart, phyAt as phyIn, tablesOf}
+use Rattle.tables.specs.Tables.{tablesSize, infoStart, phyStart, rowsStart, phyAt, tablesOf}
 use Rattle.tables.specs.Zero.{phy-zeros, row-zeros}
-use Rattle.file.specs.File.{phyAt, rowAt, adapterOf}
+use Rattle.file.specs.File.{filePhy, fileRow, adapterOf}
 
 -- phy n's bytes in a file, and those of row i in a file with p phys
 unfoldable pub phyFrom : List ℕ → ℕ → List ℕ
@@ -45,12 +45,12 @@ phy-front b =
     (rw (getD-part b 0 104 100 0 (omega arith), getD-part b 0 104 101 0 (omega arith), getD-part b 0 104 102 0 (omega arith))
     (rw (getD-part b 0 104 103 0 (omega arith)))))
 
-phy-file : (file : List ℕ) (n : ℕ) → phyOf (phyFrom file n) ≡ phyAt file n
-unfolding phyFrom phyAt blockAt
+phy-file : (file : List ℕ) (n : ℕ) → phyOf (phyFrom file n) ≡ filePhy file n
+unfolding phyFrom filePhy blockAt
 phy-file file n = ap phyOf (sym (part-part file (phyPlace n) 512 0 104 (omega arith) ∙ rw add-zero)) ∙ phy-front (part file (phyPlace n) 512)
 
-row-file : (file : List ℕ) (p i : ℕ) → rowOf (rowFrom file p i) 0 ≡ rowAt file p i
-unfolding rowFrom rowAt
+row-file : (file : List ℕ) (p i : ℕ) → rowOf (rowFrom file p i) 0 ≡ fileRow file p i
+unfolding rowFrom fileRow
 row-file file p i = row-part file (rowPlace p i) 20 0 (omega arith) ∙ rw add-zero
 
 -- a row by itself is that row among others
@@ -80,7 +80,7 @@ module _ (t file : List ℕ) (p a : ℕ) (size : length t ≡ tablesSize) (k : p
   info-long = length-part file 4 174 (omega arith)
 
   -- the rows
-  row-below : (i : ℕ) → i < a → rowOf (rowsFrom file p a) (rowStart i) ≡ rowAt file p i
+  row-below : (i : ℕ) → i < a → rowOf (rowsFrom file p a) (rowStart i) ≡ fileRow file p i
   unfolding rowsFrom
   row-below i h =
       row-alone (rowsFrom file p a) (rowStart i)
@@ -94,9 +94,9 @@ module _ (t file : List ℕ) (p a : ℕ) (size : length t ≡ tablesSize) (k : p
       ∙ ap (λ (b : List ℕ). rowOf b 0) (piece-past (rowFrom file p) 20 a 64 0 row-long l i h j)
       ∙ row-zeros 20 0 (omega arith)
 
-  rows-read : rowsOf (rowsFrom file p a) ≡ padded (rowAt file p) a 64 zeroRow
+  rows-read : rowsOf (rowsFrom file p a) ≡ padded (fileRow file p) a 64 zeroRow
   unfolding rowsOf
-  rows-read = filled-as (λ (i : ℕ). rowOf (rowsFrom file p a) (rowStart i)) (rowAt file p) a 64 zeroRow noRow l row-below row-past
+  rows-read = filled-as (λ (i : ℕ). rowOf (rowsFrom file p a) (rowStart i)) (fileRow file p) a 64 zeroRow noRow l row-below row-past
 
   -- the tables with the phys behind their head, and with the rows behind these
   abbrev manned : List ℕ
@@ -145,16 +145,16 @@ module _ (t file : List ℕ) (p a : ℕ) (size : length t ≡ tablesSize) (k : p
   rows-part = ap (part read rowsStart) (sym rows-long) ∙ part-splice manned rowsStart (rowsFrom file p a) (omega (arith, manned-long))
 
   -- the phys
-  phy-below : (n : ℕ) → n < p → phyIn read n ≡ phyAt file n
-  unfolding phyIn physFrom
+  phy-below : (n : ℕ) → n < p → phyAt read n ≡ filePhy file n
+  unfolding phyAt physFrom
   phy-below n h = ap phyOf (phy-part n (omega arith) ∙ piece-at (phyFrom file) 104 p 32 0 phy-long k n h) ∙ phy-file file n
 
-  phy-past : (n : ℕ) → p ≤ n → n < 32 → phyIn read n ≡ zeroPhy
-  unfolding phyIn physFrom
+  phy-past : (n : ℕ) → p ≤ n → n < 32 → phyAt read n ≡ zeroPhy
+  unfolding phyAt physFrom
   phy-past n h j = ap phyOf (phy-part n j ∙ piece-past (phyFrom file) 104 p 32 0 phy-long k n h j) ∙ phy-zeros
 
-  phys-read : listTo (phyIn read) 32 ≡ padded (phyAt file) p 32 zeroPhy
-  phys-read = filled-as (phyIn read) (phyAt file) p 32 zeroPhy noPhy k phy-below phy-past
+  phys-read : listTo (phyAt read) 32 ≡ padded (filePhy file) p 32 zeroPhy
+  phys-read = filled-as (phyAt read) (filePhy file) p 32 zeroPhy noPhy k phy-below phy-past
 
   tables-read : tablesOf read ≡ adapterOf file p a
   unfolding tablesOf adapterOf

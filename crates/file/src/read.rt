@@ -9,11 +9,11 @@ ghost use Rattle.layout.specs.Layout.{blocks, fileLength};
 ghost use Rattle.layout.specs.Unnamed.{unnamedZero};
 ghost use Rattle.adapter.specs.Adapter.{fieldsAll};
 ghost use Rattle.tables.specs.Tables.{tablesSize, tablesOf};
-ghost use Rattle.file.specs.File.{adapterOf, left, refused, judged, fieldsRead, lengthRead, countsRead, fileRead};
+ghost use Rattle.file.specs.File.{adapterOf, reads, refusedFile, judged, fieldsRead, lengthRead, countsRead, fileRead};
 
 fn refuse(tables: &mut [u8], call: u32) -> u32
     requires { ⌜ length (now tables) ≡ tablesSize ⌝ }
-    ensures { λ r. ⌜ left r (tablesOf (now (tables .exit))) ≡ refused call ⌝ }
+    ensures { λ r. ⌜ reads r (tablesOf (now (tables .exit))) ≡ refusedFile call ⌝ }
 {
     wire::clear(tables, 0, tables::SIZE);
     call
@@ -22,7 +22,7 @@ fn refuse(tables: &mut [u8], call: u32) -> u32
 // The tables, or the number of a field where they break a rule.
 fn judge(tables: &mut [u8], ok: bool) -> u32
     requires { ⌜ length (now tables) ≡ tablesSize ⌝ }
-    ensures { λ r. ⌜ left r (tablesOf (now (tables .exit))) ≡ judged ok (tablesOf (now (tables .entry))) ⌝ }
+    ensures { λ r. ⌜ reads r (tablesOf (now (tables .exit))) ≡ judged ok (tablesOf (now (tables .entry))) ⌝ }
 {
     if ok {
         return 0;
@@ -37,14 +37,14 @@ fn fields_right(tables: &[u8], file: &[u8], p: usize, a: usize) -> bool
     requires { ⌜ tablesOf (now tables) .«phy_count» ≤ 32 ⌝ }
     ensures { λ r. ⌜ r ≡ unnamedZero (now (file .entry)) p a && fieldsAll (tablesOf (now (tables .entry))) ⌝ }
 {
-    layout::unnamed_zero(file, p, a) & rules::fields_hold(tables)
+    layout::unnamed_zero(file, p, a) & rules::all_fields_hold(tables)
 }
 
 // A sound file, of the length that its counts give.
 fn read_fields(tables: &mut [u8], file: &[u8], p: u8, a: u8) -> u32
     requires { ⌜ (p ≤ 32) × (a ≤ 64) × (length (now file) ≡ fileLength p a) ⌝ }
     requires { ⌜ length (now tables) ≡ tablesSize ⌝ }
-    ensures { λ r. ⌜ left r (tablesOf (now (tables .exit))) ≡ judged (unnamedZero (now (file .entry)) p a && fieldsAll (adapterOf (now (file .entry)) p a)) (adapterOf (now (file .entry)) p a) ⌝ }
+    ensures { λ r. ⌜ reads r (tablesOf (now (tables .exit))) ≡ judged (unnamedZero (now (file .entry)) p a && fieldsAll (adapterOf (now (file .entry)) p a)) (adapterOf (now (file .entry)) p a) ⌝ }
 {
     parse(tables, file, p, a);
     let ok = fields_right(tables, file, p as usize, a as usize);
@@ -63,7 +63,7 @@ fn blocks_sound(file: &[u8], p: usize, a: usize) -> bool
 fn read_blocks(tables: &mut [u8], file: &[u8], p: u8, a: u8) -> u32
     requires { ⌜ (p ≤ 32) × (a ≤ 64) × (length (now file) ≡ fileLength p a) ⌝ }
     requires { ⌜ length (now tables) ≡ tablesSize ⌝ }
-    ensures { λ r. ⌜ left r (tablesOf (now (tables .exit))) ≡ fieldsRead (now (file .entry)) p a ⌝ }
+    ensures { λ r. ⌜ reads r (tablesOf (now (tables .exit))) ≡ fieldsRead (now (file .entry)) p a ⌝ }
 {
     if blocks_sound(file, p as usize, a as usize) {
         return read_fields(tables, file, p, a);
@@ -82,18 +82,18 @@ fn length_for(p: usize, a: usize) -> usize
 fn read_length(tables: &mut [u8], file: &[u8], p: u8, a: u8) -> u32
     requires { ⌜ (p ≤ 32) × (a ≤ 64) ⌝ }
     requires { ⌜ length (now tables) ≡ tablesSize ⌝ }
-    ensures { λ r. ⌜ left r (tablesOf (now (tables .exit))) ≡ lengthRead (now (file .entry)) p a ⌝ }
+    ensures { λ r. ⌜ reads r (tablesOf (now (tables .exit))) ≡ lengthRead (now (file .entry)) p a ⌝ }
 {
     if length_for(p as usize, a as usize) == file.len() {
         return read_blocks(tables, file, p, a);
     }
-    refuse(tables, codes::FILE_LENGTH)
+    refuse(tables, codes::BAD_FILE_LENGTH)
 }
 
 // A file whose block 0 is sound.
 fn read_counts(tables: &mut [u8], file: &[u8], p: u8, a: u8) -> u32
     requires { ⌜ length (now tables) ≡ tablesSize ⌝ }
-    ensures { λ r. ⌜ left r (tablesOf (now (tables .exit))) ≡ countsRead (now (file .entry)) p a ⌝ }
+    ensures { λ r. ⌜ reads r (tablesOf (now (tables .exit))) ≡ countsRead (now (file .entry)) p a ⌝ }
 {
     if adapter::counts_hold(p, a) {
         return read_length(tables, file, p, a);
@@ -104,10 +104,10 @@ fn read_counts(tables: &mut [u8], file: &[u8], p: u8, a: u8) -> u32
 // What a file holds, left in the tables, and 0; or the number of what is wrong with it.
 pub fn read_file(tables: &mut [u8], file: &[u8]) -> u32
     requires { ⌜ length (now tables) ≡ tablesSize ⌝ }
-    ensures { λ r. ⌜ left r (tablesOf (now (tables .exit))) ≡ fileRead (now (file .entry)) ⌝ }
+    ensures { λ r. ⌜ reads r (tablesOf (now (tables .exit))) ≡ fileRead (now (file .entry)) ⌝ }
 {
     if file.len() < 512 {
-        return refuse(tables, codes::FILE_LENGTH);
+        return refuse(tables, codes::BAD_FILE_LENGTH);
     }
     if block::sound_at(file, 0) {
         return read_counts(tables, file, file[0], file[1]);

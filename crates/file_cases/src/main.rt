@@ -52,7 +52,7 @@ fn put_sata(file: &mut [u8], at: usize)
 }
 
 // Phys have by turns no device, a SATA disk, another end device and an expander.
-fn put_device(file: &mut [u8], at: usize, turn: usize)
+fn put_sas(file: &mut [u8], at: usize, turn: usize)
     requires { ⌜ at < 65536 ⌝ }
 {
     if turn == 1 {
@@ -93,7 +93,7 @@ fn put_phy(file: &mut [u8], n: usize)
     let at = 512 * (1 + n);
     put_identify(file, at, n, n / 2);
     put_rates(file, at, n);
-    put_device(file, at, n % 4);
+    put_sas(file, at, n % 4);
 }
 
 fn put_phys(file: &mut [u8], p: usize)

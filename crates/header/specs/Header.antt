@@ -32,8 +32,8 @@ abbrev pub lengthField : List ℕ → ℕ
 lengthField buffer = number (part buffer 24 4)
 
 -- what stands behind the header
-abbrev pub bodyOf : List ℕ → List ℕ
-bodyOf buffer = behindHeader srb buffer
+abbrev pub srbBody : List ℕ → List ℕ
+srbBody buffer = behindHeader srb buffer
 
 -- ---- its checks
 
@@ -51,7 +51,7 @@ unfoldable pub codeChecked : ℕ → List ℕ → ℕ
 codeChecked code buffer =
     cond (eqb (structureSize code) 0) badControlCode
     (cond (signatureHolds code buffer)
-    (cond (lengthHolds code (lengthField buffer) (bodyOf buffer)) success invalidParameter)
+    (cond (lengthHolds code (lengthField buffer) (srbBody buffer)) success invalidParameter)
     badControlCode)
 
 -- "HeaderLength 28", and then those
@@ -60,7 +60,7 @@ headerCode buffer = cond (eqb (headerLength buffer) (srb .size)) (codeChecked (c
 
 -- "its need is above it"
 unfoldable pub above : Level → List ℕ → Bool
-above level buffer = ltb (level .0) (need (controlCode buffer) (bodyOf buffer) .0)
+above level buffer = ltb (level .0) (need (controlCode buffer) (srbBody buffer) .0)
 
 -- "passes all before the level and its need is above it", of the header's checks
 unfoldable pub levelRefuses : Level → List ℕ → Bool

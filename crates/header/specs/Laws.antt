@@ -16,7 +16,7 @@ use Rattle.wire.specs.Number.{bytes, length-bytes, number-bytes}
 use Rattle.level.specs.declared.Level.{Level}
 use Rattle.header.specs.Form.{Form, srb, behindHeader, returnCode, withCode}
 use Rattle.header.specs.Table.{structureSize, dataSize, need}
-use Rattle.header.specs.Header.{headerLength, controlCode, lengthField, bodyOf, signatureHolds, lengthHolds, codeChecked, headerCode, above, levelRefuses, accessCode}
+use Rattle.header.specs.Header.{headerLength, controlCode, lengthField, srbBody, signatureHolds, lengthHolds, codeChecked, headerCode, above, levelRefuses, accessCode}
 
 -- ---- a header of any form, with the return code inside it
 
@@ -49,10 +49,10 @@ passthrough-room control k n e h l = le-trans l (rw e at h)
 -- ---- the body, lent as the rest of the buffer
 
 module _ (buffer : List ℕ) (code : ℕ) where
-  pub length-by : (n m : ℕ) (r : Bool) → m ≡ n → r ≡ lengthHolds code m (take (length buffer - 28) (drop 28 buffer)) → r ≡ lengthHolds code n (bodyOf buffer)
+  pub length-by : (n m : ℕ) (r : Bool) → m ≡ n → r ≡ lengthHolds code m (take (length buffer - 28) (drop 28 buffer)) → r ≡ lengthHolds code n (srbBody buffer)
   length-by n m r e p = p ∙ rw (rest, e)
 
-  pub room-by : code ≡ controlCode buffer → structureSize (controlCode buffer) ≤ length (bodyOf buffer)
+  pub room-by : code ≡ controlCode buffer → structureSize (controlCode buffer) ≤ length (srbBody buffer)
       → structureSize code ≤ length (take (length buffer - 28) (drop 28 buffer))
   room-by e h = rw (rest, e) h
 
@@ -98,17 +98,17 @@ Passes code = code ≡ 0
 
 -- its structure and its data are there
 pub header-room : (buffer : List ℕ) → headerCode buffer ≡ 0
-    → structureSize (controlCode buffer) + dataSize (controlCode buffer) (bodyOf buffer) ≤ length (bodyOf buffer)
+    → structureSize (controlCode buffer) + dataSize (controlCode buffer) (srbBody buffer) ≤ length (srbBody buffer)
 unfolding headerCode codeChecked Passes
 header-room buffer h =
     let a = came-then Passes (eqb (headerLength buffer) 28) (λ e. omega arith) h in
     let b = came-else Passes (eqb (structureSize (controlCode buffer)) 0) (λ e. omega arith) (a .1) in
     let c = came-then Passes (signatureHolds (controlCode buffer) buffer) (λ e. omega arith) (b .1) in
-    let d = came-then Passes (lengthHolds (controlCode buffer) (lengthField buffer) (bodyOf buffer)) (λ e. omega arith) (c .1) in
-    length-room (controlCode buffer) (lengthField buffer) (bodyOf buffer) (d .0)
+    let d = came-then Passes (lengthHolds (controlCode buffer) (lengthField buffer) (srbBody buffer)) (λ e. omega arith) (c .1) in
+    length-room (controlCode buffer) (lengthField buffer) (srbBody buffer) (d .0)
 
 -- the same of a callee's answer
-pub structure-room : (buffer : List ℕ) (code : ℕ) → code ≡ headerCode buffer → code ≡ 0 → structureSize (controlCode buffer) ≤ length (bodyOf buffer)
+pub structure-room : (buffer : List ℕ) (code : ℕ) → code ≡ headerCode buffer → code ≡ 0 → structureSize (controlCode buffer) ≤ length (srbBody buffer)
 structure-room buffer code e z = omega (arith, header-room buffer (sym e ∙ z))
 
 -- ---- a level check that was passed
@@ -120,7 +120,7 @@ access-header level buffer h =
     (λ e _. eqb-true (headerCode buffer) 0 e) (λ _ z. z) (eqb (headerCode buffer) 0) refl h
 
 pub access-room : (level : Level) (buffer : List ℕ) (code : ℕ) → code ≡ accessCode level buffer → code ≡ 0
-    → structureSize (controlCode buffer) + dataSize (controlCode buffer) (bodyOf buffer) ≤ length (bodyOf buffer)
+    → structureSize (controlCode buffer) + dataSize (controlCode buffer) (srbBody buffer) ≤ length (srbBody buffer)
 access-room level buffer code e z = header-room buffer (access-header level buffer (sym e ∙ z))
 
 -- ---- the level
@@ -133,7 +133,7 @@ access-small level buffer =
     (either Small (eqb (headerLength buffer) (srb .size))
     (either Small (eqb (structureSize (controlCode buffer)) 0) (omega arith)
     (either Small (signatureHolds (controlCode buffer) buffer)
-    (either Small (lengthHolds (controlCode buffer) (lengthField buffer) (bodyOf buffer)) (omega arith) (omega arith)) (omega arith)))
+    (either Small (lengthHolds (controlCode buffer) (lengthField buffer) (srbBody buffer)) (omega arith) (omega arith)) (omega arith)))
     (omega arith))
   where
     Small : ℕ → Type 0
@@ -149,8 +149,8 @@ module _ (l m : Level) (buffer : List ℕ) (h : l .0 ≤ m .0) where
   above-higher : above l buffer ≡ false → above m buffer ≡ false
   unfolding above
   above-higher a =
-      let n : need (controlCode buffer) (bodyOf buffer) .0 ≤ l .0 = ltb-false (l .0) (need (controlCode buffer) (bodyOf buffer) .0) a in
-      le-ltb (m .0) (need (controlCode buffer) (bodyOf buffer) .0) (omega arith)
+      let n : need (controlCode buffer) (srbBody buffer) .0 ≤ l .0 = ltb-false (l .0) (need (controlCode buffer) (srbBody buffer) .0) a in
+      le-ltb (m .0) (need (controlCode buffer) (srbBody buffer) .0) (omega arith)
 
   -- one that it does not refuse is answered the same at a higher level
   pub access-higher : levelRefuses l buffer ≡ false → accessCode l buffer ≡ accessCode m buffer

@@ -10,7 +10,7 @@ ghost use lib.Dec.{eqb, leb};
 ghost use lib.ListN.{length};
 ghost use Rattle.header.specs.Form.{srb};
 ghost use Rattle.header.specs.Table.{structureSize, dataSize};
-ghost use Rattle.header.specs.Header.{headerLength, controlCode, lengthField, bodyOf, signatureHolds, lengthHolds, codeChecked, headerCode, above, accessCode};
+ghost use Rattle.header.specs.Header.{headerLength, controlCode, lengthField, srbBody, signatureHolds, lengthHolds, codeChecked, headerCode, above, accessCode};
 
 // The bytes of a header, and the place of its return code.
 pub const SIZE: usize = 28;
@@ -71,7 +71,7 @@ fn length_holds(control: u32, n: u32, body: &[u8]) -> bool
 
 fn body_length_holds(control: u32, buffer: &[u8]) -> bool
     requires { ⌜ srb .size ≤ length (now buffer) ⌝ }
-    ensures { λ r. ⌜ r ≡ lengthHolds control (lengthField (now (buffer .entry))) (bodyOf (now (buffer .entry))) ⌝ }
+    ensures { λ r. ⌜ r ≡ lengthHolds control (lengthField (now (buffer .entry))) (srbBody (now (buffer .entry))) ⌝ }
 {
     length_holds(control, wire::read32(buffer, 24), &buffer[SIZE..])
 }
@@ -118,7 +118,7 @@ fn header_code(buffer: &[u8]) -> u32
 
 fn is_above(level: Level, buffer: &[u8]) -> bool
     requires { ⌜ srb .size ≤ length (now buffer) ⌝ }
-    requires { ⌜ structureSize (controlCode (now buffer)) ≤ length (bodyOf (now buffer)) ⌝ }
+    requires { ⌜ structureSize (controlCode (now buffer)) ≤ length (srbBody (now buffer)) ⌝ }
     ensures { λ r. ⌜ r ≡ above level (now (buffer .entry)) ⌝ }
 {
     let need = need(control_code(buffer), &buffer[SIZE..]);

@@ -9,8 +9,8 @@ use Rattle.layout.specs.Layout.{fileLength}
 abbrev pub lengthFor : ℕ → ℕ → ℕ → Case
 lengthFor p a n = record { gives = fileLength p a ∷ []; said = n ∷ [] }
 
-abbrev pub cases : List Case
-cases = lengthFor 4 25 3072 ∷ lengthFor 4 26 3584 ∷ []
+abbrev pub layoutCases : List Case
+layoutCases = lengthFor 4 25 3072 ∷ lengthFor 4 26 3584 ∷ []
 
-pub starred : All Holds cases
-starred = (refl, (refl, tt))
+pub layoutStarred : All Holds layoutCases
+layoutStarred = (refl, (refl, tt))

@@ -47,16 +47,16 @@ absent n (x ∷ l) h =
     rw (ne-eqb n x (λ e. h zero (suc-le-suc zero-le) (sym e))) (absent n l (λ k b. h (suc k) (suc-le-suc b)))
 
 -- what holds of each place passed
-abbrev pub Passed : ℕ → List ℕ → ℕ → Type 0
-Passed n l i = (k : ℕ) → k < i → getD l k 0 ≡ n → ⊥
+abbrev pub PassedOver : ℕ → List ℕ → ℕ → Type 0
+PassedOver n l i = (k : ℕ) → k < i → getD l k 0 ≡ n → ⊥
 
-pub listed-start : (n : ℕ) (l : List ℕ) → Passed n l 0
+pub listed-start : (n : ℕ) (l : List ℕ) → PassedOver n l 0
 listed-start n l = below-none (λ (k : ℕ). getD l k 0 ≡ n → ⊥)
 
-pub listed-more : (n : ℕ) (l : List ℕ) (i : ℕ) → Passed n l i → (getD l i 0 ≡ n → ⊥) → Passed n l (i + 1)
+pub listed-more : (n : ℕ) (l : List ℕ) (i : ℕ) → PassedOver n l i → (getD l i 0 ≡ n → ⊥) → PassedOver n l (i + 1)
 listed-more n l i p q = below-more (λ (k : ℕ). getD l k 0 ≡ n → ⊥) i p q
 
-pub listed-none : (n : ℕ) (l : List ℕ) (i : ℕ) → length l ≤ i → Passed n l i → false ≡ among n l
+pub listed-none : (n : ℕ) (l : List ℕ) (i : ℕ) → length l ≤ i → PassedOver n l i → false ≡ among n l
 listed-none n l i h p = absent n l (λ k b. p k (omega arith))
 
 pub ruleset listed-loop = (listed-start, listed-hit, listed-more, listed-none, needs)

@@ -14,20 +14,20 @@ use Rattle.level.specs.Need.{needOf, among}
 abbrev pub text : String → ℕ → ℕ → Case
 text s call level = record { gives = textLevel (ascii s) .call ∷ textLevel (ascii s) .level .0 ∷ []; said = call ∷ level ∷ [] }
 
-abbrev pub need : ℕ → ℕ → Case
-need command level = record { gives = needOf command .0 ∷ []; said = level ∷ [] }
+abbrev pub needCase : ℕ → ℕ → Case
+needCase command level = record { gives = needOf command .0 ∷ []; said = level ∷ [] }
 
-abbrev pub cases : List Case
-cases =
+abbrev pub levelCases : List Case
+levelCases =
     text "" 0 2
     ∷ text "Something=here;CSMI=Full;" 0 3
     ∷ text "CSMI=full;" 101 0
     ∷ text "CSMI=Full" 101 0
-    ∷ need 0xe8 2
-    ∷ need 0xa0 3
-    ∷ need 0x20 1
+    ∷ needCase 0xe8 2
+    ∷ needCase 0xa0 3
+    ∷ needCase 0x20 1
     ∷ []
 
-pub starred : All Holds cases
+pub levelStarred : All Holds levelCases
 unfolding textLevel entries begins ours exact needOf among sameBytes part ascii
-starred = (refl, (refl, (refl, (refl, (refl, (refl, (refl, tt)))))))
+levelStarred = (refl, (refl, (refl, (refl, (refl, (refl, (refl, tt)))))))

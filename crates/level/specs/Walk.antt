@@ -27,13 +27,13 @@ another (Given l) e = Bad
 another Bad e = Bad
 
 -- one more entry
-unfoldable pub after : Setting → List ℕ → Setting
-after s entry = cond (begins entry) (another s (exact entry)) s
+unfoldable pub afterEntry : Setting → List ℕ → Setting
+afterEntry s entry = cond (begins entry) (another s (exact entry)) s
 
 -- the entries one after the other
 unfoldable pub walked : Setting → List (List ℕ) → Setting
 walked s [] = s
-walked s (e ∷ es) = walked (after s e) es
+walked s (e ∷ es) = walked (afterEntry s e) es
 
 -- the length of the first entry
 unfoldable pub entryLength : List ℕ → ℕ
@@ -47,13 +47,13 @@ more s [] = s
 more s (f ∷ fs) = Bad
 
 walked-bad : (es : List (List ℕ)) → walked Bad es ≡ Bad
-unfolding walked after
+unfolding walked afterEntry
 walked-bad [] = refl
 walked-bad (e ∷ es) = by-bool (λ (b : Bool). walked (cond b Bad Bad) es ≡ Bad) (walked-bad es) (walked-bad es) (begins e)
 
 -- behind an entry that counts, any other makes it bad
 walked-more : (s : Setting) → ((x : Setting) → another s x ≡ Bad) → (es : List (List ℕ)) → walked s es ≡ more s (ours es)
-unfolding walked after ours more
+unfolding walked afterEntry ours more
 walked-more s h [] = refl
 walked-more s h (e ∷ es) =
     by-bool (λ (b : Bool). walked (cond b (another s (exact e)) s) es ≡ more s (cond b (e ∷ ours es) (ours es)))
@@ -74,7 +74,7 @@ more-first e [] = refl
 more-first e (f ∷ es) = refl
 
 pub walk-start : (es : List (List ℕ)) → walked Absent es ≡ settingOf (ours es)
-unfolding walked after ours
+unfolding walked afterEntry ours
 walk-start [] = refl
 walk-start (e ∷ es) =
     by-bool (λ (b : Bool). walked (cond b (exact e) Absent) es ≡ settingOf (cond b (e ∷ ours es) (ours es)))
@@ -102,7 +102,7 @@ entries-at text from h =
     rw (← drop-drop, drop-cons text from 0 h) (entries-first (getD text from 0) (drop (suc from) text))
 
 pub walk-more : (s s′ x : Setting) (text : List ℕ) (from end : ℕ) → from < length text → end ≡ from + entryLength (drop from text)
-    → s′ ≡ after s (part text from (end - from)) → walked s (entries (drop from text)) ≡ x → walked s′ (entries (drop end text)) ≡ x
+    → s′ ≡ afterEntry s (part text from (end - from)) → walked s (entries (drop from text)) ≡ x → walked s′ (entries (drop end text)) ≡ x
 unfolding walked
 walk-more s s′ x text from end h e p q =
     let n : end - from ≡ entryLength (drop from text) = omega arith in

@@ -7,7 +7,7 @@ ghost use Prim.Native.Nat.{_+_, _-_, _<_, _≤_};
 ghost use lib.ListN.{length, drop};
 ghost use Rattle.laws.specs.Splice.{part};
 ghost use Rattle.level.specs.Text.{begins, exact, settingOf, ours, entries, meant, textLevel};
-ghost use Rattle.level.specs.Walk.{another, after, entryLength};
+ghost use Rattle.level.specs.Walk.{another, afterEntry, entryLength};
 
 // The entry begins with the five bytes CSMI= .
 fn begins_ours(entry: &[u8]) -> bool
@@ -17,7 +17,7 @@ fn begins_ours(entry: &[u8]) -> bool
 }
 
 // What was said before, and then by one more entry that begins with CSMI= .
-fn one_more(before: Setting, entry: Setting) -> Setting
+fn another(before: Setting, entry: Setting) -> Setting
     ensures { λ r. ⌜ r ≡ another before entry ⌝ }
 {
     match before {
@@ -30,12 +30,12 @@ fn one_more(before: Setting, entry: Setting) -> Setting
 fn read_ours(before: Setting, entry: &[u8]) -> Setting
     ensures { λ r. ⌜ r ≡ another before (exact (now (entry .entry))) ⌝ }
 {
-    one_more(before, Level::from_entry(entry))
+    another(before, Level::from_entry(entry))
 }
 
 // What was said before, and then by one more entry.
 fn read_entry(before: Setting, entry: &[u8]) -> Setting
-    ensures { λ r. ⌜ r ≡ after before (now (entry .entry)) ⌝ }
+    ensures { λ r. ⌜ r ≡ afterEntry before (now (entry .entry)) ⌝ }
 {
     if begins_ours(entry) {
         return read_ours(before, entry);
@@ -61,7 +61,7 @@ fn entry_end(text: &[u8], from: usize) -> usize
 // What was said before, and then by the entry from one index up to another.
 fn read_part(before: Setting, text: &[u8], from: usize, end: usize) -> Setting
     requires { ⌜ (from ≤ end) × (end ≤ length (now text)) ⌝ }
-    ensures { λ r. ⌜ r ≡ after before (part (now (text .entry)) from (end - from)) ⌝ }
+    ensures { λ r. ⌜ r ≡ afterEntry before (part (now (text .entry)) from (end - from)) ⌝ }
 {
     read_entry(before, &text[from..end])
 }

@@ -25,9 +25,9 @@ phyWith minimum maximum lowest highest =
 abbrev pub linkCase : ℕ → ℕ → ℕ → ℕ → ℕ → Case
 linkCase minimum maximum lowest highest rate = record { gives = ruleOf (phyWith minimum maximum lowest highest) ∷ []; said = rate ∷ [] }
 
-abbrev pub cases : List Case
-cases = linkCase 8 8 9 9 2 ∷ linkCase 8 9 8 9 9 ∷ []
+abbrev pub linkCases : List Case
+linkCases = linkCase 8 8 9 9 2 ∷ linkCase 8 9 8 9 9 ∷ []
 
-pub starred : All Holds cases
+pub linkStarred : All Holds linkCases
 unfolding ruleOf ratesRule inBoth noDevice attachedType programmedMinimum programmedMaximum
-starred = (refl, (refl, tt))
+linkStarred = (refl, (refl, tt))

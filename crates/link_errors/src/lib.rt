@@ -10,11 +10,11 @@ ghost use Rattle.codes.specs.Codes.{success};
 ghost use Rattle.adapter.specs.Adapter.{phyIn, withPhy};
 ghost use Rattle.adapter.specs.Changed.{gives, leaves, withBody};
 ghost use Rattle.tables.specs.Tables.{tablesSize, tablesOf};
-ghost use Rattle.link_errors.specs.LinkErrors.{reported, afterReset, linkErrors};
+ghost use Rattle.link_errors.specs.LinkErrors.{countersShown, afterReset, linkErrors};
 
 fn put_counters(counters: [u32; 4], body: &mut [u8])
     requires { ⌜ 20 ≤ length (now body) ⌝ }
-    ensures { λ _. ⌜ now (body .exit) ≡ reported (now (body .entry)) counters ⌝ }
+    ensures { λ _. ⌜ now (body .exit) ≡ countersShown (now (body .entry)) counters ⌝ }
 {
     wire::write32(body, 4, counters[0]);
     wire::write32(body, 8, counters[1]);
@@ -22,7 +22,7 @@ fn put_counters(counters: [u32; 4], body: &mut [u8])
     wire::write32(body, 16, counters[3]);
 }
 
-fn clear(tables: &mut [u8], n: PhyIdentifier, phy: Phy) -> u32
+fn clear_counters(tables: &mut [u8], n: PhyIdentifier, phy: Phy) -> u32
     requires { ⌜ n .0 < 32 ⌝ }
     requires { ⌜ length (now tables) ≡ tablesSize ⌝ }
     ensures { λ code. ⌜ gives code (tablesOf (now (tables .exit))) ≡ gives success (withPhy (tablesOf (now (tables .entry))) (n .0) (cleared phy)) ⌝ }
@@ -37,16 +37,16 @@ fn after_reset(tables: &mut [u8], n: PhyIdentifier, phy: Phy, byte: u8) -> u32
     ensures { λ code. ⌜ gives code (tablesOf (now (tables .exit))) ≡ afterReset (tablesOf (now (tables .entry))) n phy byte ⌝ }
 {
     if byte == 1 {
-        return clear(tables, n, phy);
+        return clear_counters(tables, n, phy);
     }
     codes::SUCCESS
 }
 
-fn report(tables: &mut [u8], n: PhyIdentifier, byte: u8, body: &mut [u8]) -> u32
+fn show_counters(tables: &mut [u8], n: PhyIdentifier, byte: u8, body: &mut [u8]) -> u32
     requires { ⌜ n .0 < 32 ⌝ }
     requires { ⌜ length (now tables) ≡ tablesSize ⌝ }
     requires { ⌜ 20 ≤ length (now body) ⌝ }
-    ensures { λ code. ⌜ leaves code (tablesOf (now (tables .exit))) (now (body .exit)) ≡ withBody (afterReset (tablesOf (now (tables .entry))) n (phyIn (tablesOf (now (tables .entry))) (n .0)) byte) (reported (now (body .entry)) (phyIn (tablesOf (now (tables .entry))) (n .0) .counters)) ⌝ }
+    ensures { λ code. ⌜ leaves code (tablesOf (now (tables .exit))) (now (body .exit)) ≡ withBody (afterReset (tablesOf (now (tables .entry))) n (phyIn (tablesOf (now (tables .entry))) (n .0)) byte) (countersShown (now (body .entry)) (phyIn (tablesOf (now (tables .entry))) (n .0) .counters)) ⌝ }
 {
     let phy = tables::phy_at(tables, n);
     let counters = phy.counters;
@@ -63,7 +63,7 @@ pub fn get_link_errors(tables: &mut [u8], body: &mut [u8]) -> u32
 {
     if body[1] <= 1 {
         if tables::phy_exists(tables, body[0]) {
-            return report(tables, PhyIdentifier(body[0]), body[1], body);
+            return show_counters(tables, PhyIdentifier(body[0]), body[1], body);
         }
         return codes::PHY_DOES_NOT_EXIST;
     }

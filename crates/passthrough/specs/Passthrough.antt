@@ -11,7 +11,7 @@ use Rattle.phy.specs.declared.PhyIdentifier.{PhyIdentifier}
 use Rattle.phy.specs.declared.PortIdentifier.{PortIdentifier}
 use Rattle.phy.specs.Entity.{isSata, negotiatedOf, attachedIs}
 use Rattle.fields.specs.Rules.{isRate}
-use Rattle.disk.specs.Disk.{fis, Served, served}
+use Rattle.disk.specs.Disk.{fis, Performed, performed}
 use Rattle.adapter.specs.Adapter.{Adapter, phyIn}
 use Rattle.select.specs.declared.Selection.{Selection}
 use Rattle.select.specs.Select.{selectIn}
@@ -23,8 +23,8 @@ pub record Passed : Type 0 where
   pub body : List ℕ
 
 -- the three together
-abbrev pub leaves : ℕ → List ℕ → List ℕ → Passed
-leaves code medium body = record { code = code; medium = medium; body = body }
+abbrev pub passes : ℕ → List ℕ → List ℕ → Passed
+passes code medium body = record { code = code; medium = medium; body = body }
 
 -- ---- the fields of the body. "uFlags is not read"
 
@@ -60,24 +60,24 @@ abbrev pub diskOf : List ℕ → ℕ → List ℕ
 diskOf medium n = part medium (8192 * n) 8192
 
 -- what a served command leaves, with the disk back in its place
-abbrev pub putBack : List ℕ → ℕ → Served → Passed
-putBack medium n s = leaves (s .code) (splice medium (8192 * n) (s .disk)) (s .body)
+abbrev pub putBack : List ℕ → ℕ → Performed → Passed
+putBack medium n s = passes (s .code) (splice medium (8192 * n) (s .disk)) (s .body)
 
 -- "Then the disk"
 unfoldable pub onDisk : List ℕ → ℕ → List ℕ → Passed
-onDisk medium n body = putBack medium n (served (diskOf medium n) body)
+onDisk medium n body = putBack medium n (performed (diskOf medium n) body)
 
 -- "otherwise 2009, for every device type": CONNECTION_FAILED, which section 10 numbers 2008
 unfoldable pub sentTo : Adapter → List ℕ → List ℕ → ℕ → Passed
 sentTo ad medium body n =
-    cond (connected (phyIn ad n) (connectionRate body) (destinationOf body)) (onDisk medium n body) (leaves connectionFailed medium body)
+    cond (connected (phyIn ad n) (connectionRate body) (destinationOf body)) (onDisk medium n body) (passes connectionFailed medium body)
 
 -- the phy that was selected, or the code of the selection
 unfoldable pub passedTo : Adapter → List ℕ → List ℕ → Selection → Passed
-passedTo ad medium body s = cond (eqb (s .code) success) (sentTo ad medium body (s .phy .0)) (leaves (s .code) medium body)
+passedTo ad medium body s = cond (eqb (s .code) success) (sentTo ad medium body (s .phy .0)) (passes (s .code) medium body)
 
 -- "25: FIS byte 0 ..; phy and port .. Connected if .. Then the disk"
 unfoldable pub passthrough : Adapter → List ℕ → List ℕ → Passed
 passthrough ad medium body =
     cond (formHolds (fis body 0) (connectionRate body)) (passedTo ad medium body (selectIn ad (phyAsked body) (portAsked body)))
-    (leaves invalidParameter medium body)
+    (passes invalidParameter medium body)

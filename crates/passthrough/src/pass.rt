@@ -11,7 +11,7 @@ ghost use Rattle.disk.specs.Disk.{dataLength};
 ghost use Rattle.adapter.specs.Adapter.{mediumSize, phyIn};
 ghost use Rattle.tables.specs.Tables.{tablesSize, tablesOf};
 ghost use Rattle.select.specs.Select.{selectIn};
-ghost use Rattle.passthrough.specs.Passthrough.{leaves, phyAsked, portAsked, connectionRate, destinationOf};
+ghost use Rattle.passthrough.specs.Passthrough.{passes, phyAsked, portAsked, connectionRate, destinationOf};
 ghost use Rattle.passthrough.specs.Passthrough.{formHolds, connected, onDisk, sentTo, passedTo, passthrough};
 
 // A register host-to-device FIS.
@@ -48,7 +48,7 @@ fn is_connected(tables: &[u8], n: PhyIdentifier, body: &[u8]) -> bool
 fn on_disk(medium: &mut [u8], n: PhyIdentifier, body: &mut [u8]) -> u32
     requires { ⌜ 8192 * n .0 + 8192 ≤ length (now medium) ⌝ }
     requires { ⌜ 136 + dataLength (now body) ≤ length (now body) ⌝ }
-    ensures { λ code. ⌜ leaves code (now (medium .exit)) (now (body .exit)) ≡ onDisk (now (medium .entry)) (n .0) (now (body .entry)) ⌝ }
+    ensures { λ code. ⌜ passes code (now (medium .exit)) (now (body .exit)) ≡ onDisk (now (medium .entry)) (n .0) (now (body .entry)) ⌝ }
 {
     let from = 8192 * n.0 as usize;
     disk::command(&mut medium[from..from + 8192], body)
@@ -59,7 +59,7 @@ fn connect(tables: &[u8], medium: &mut [u8], body: &mut [u8], n: PhyIdentifier) 
     requires { ⌜ length (now tables) ≡ tablesSize ⌝ }
     requires { ⌜ 8192 * n .0 + 8192 ≤ length (now medium) ⌝ }
     requires { ⌜ 136 + dataLength (now body) ≤ length (now body) ⌝ }
-    ensures { λ code. ⌜ leaves code (now (medium .exit)) (now (body .exit))
+    ensures { λ code. ⌜ passes code (now (medium .exit)) (now (body .exit))
         ≡ sentTo (tablesOf (now (tables .entry))) (now (medium .entry)) (now (body .entry)) (n .0) ⌝ }
 {
     if is_connected(tables, n, body) {
@@ -74,7 +74,7 @@ fn pass_to(tables: &[u8], medium: &mut [u8], body: &mut [u8], s: Selection) -> u
     requires { ⌜ length (now medium) ≡ mediumSize (tablesOf (now tables)) ⌝ }
     requires { ⌜ 136 + dataLength (now body) ≤ length (now body) ⌝ }
     requires { ⌜ s ≡ selectIn (tablesOf (now tables)) (phyAsked (now body)) (portAsked (now body)) ⌝ }
-    ensures { λ code. ⌜ leaves code (now (medium .exit)) (now (body .exit))
+    ensures { λ code. ⌜ passes code (now (medium .exit)) (now (body .exit))
         ≡ passedTo (tablesOf (now (tables .entry))) (now (medium .entry)) (now (body .entry)) s ⌝ }
 {
     if s.code == codes::SUCCESS {
@@ -88,7 +88,7 @@ fn pass_selected(tables: &[u8], medium: &mut [u8], body: &mut [u8]) -> u32
     requires { ⌜ tablesOf (now tables) .«phy_count» ≤ 32 ⌝ }
     requires { ⌜ length (now medium) ≡ mediumSize (tablesOf (now tables)) ⌝ }
     requires { ⌜ 136 + dataLength (now body) ≤ length (now body) ⌝ }
-    ensures { λ code. ⌜ leaves code (now (medium .exit)) (now (body .exit))
+    ensures { λ code. ⌜ passes code (now (medium .exit)) (now (body .exit))
         ≡ passedTo (tablesOf (now (tables .entry))) (now (medium .entry)) (now (body .entry))
         (selectIn (tablesOf (now (tables .entry))) (phyAsked (now (body .entry))) (portAsked (now (body .entry)))) ⌝ }
 {
@@ -102,7 +102,7 @@ pub fn pass_through(tables: &[u8], medium: &mut [u8], body: &mut [u8]) -> u32
     requires { ⌜ tablesOf (now tables) .«phy_count» ≤ 32 ⌝ }
     requires { ⌜ length (now medium) ≡ mediumSize (tablesOf (now tables)) ⌝ }
     requires { ⌜ 136 + dataLength (now body) ≤ length (now body) ⌝ }
-    ensures { λ code. ⌜ leaves code (now (medium .exit)) (now (body .exit))
+    ensures { λ code. ⌜ passes code (now (medium .exit)) (now (body .exit))
         ≡ passthrough (tablesOf (now (tables .entry))) (now (medium .entry)) (now (body .entry)) ⌝ }
 {
     if is_form(body[16], body[2]) {

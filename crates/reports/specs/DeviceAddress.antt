@@ -9,9 +9,9 @@ use Rattle.rows.specs.Row.{Row, rowAt, osIndex}
 use Rattle.reports.specs.Report.{Report, report, filled}
 
 -- what row i gives where i is below a, the row count; else no row was found
-unfoldable pub deviceBytes : List Row → ℕ → ℕ → List ℕ → Report
-deviceBytes rows a i body = cond (ltb i a) (filled (splice body 4 (rowAt rows i .device))) (report noDeviceAddress body)
+unfoldable pub sasBytes : List Row → ℕ → ℕ → List ℕ → Report
+sasBytes rows a i body = cond (ltb i a) (filled (splice body 4 (rowAt rows i .sas))) (report noDeviceAddress body)
 
 -- "28: the other way": the row with those four OS bytes gives the SAS address and LUN
 unfoldable pub deviceAddress : List Row → ℕ → List ℕ → Report
-deviceAddress rows a body = deviceBytes rows a (osIndex rows a (part body 0 4)) body
+deviceAddress rows a body = sasBytes rows a (osIndex rows a (part body 0 4)) body

@@ -5,7 +5,7 @@ use Prim.Native.Nat.{ℕ}
 use lib.Dec.{ltb}
 use Rattle.laws.specs.Splice.{part, splice}
 use Rattle.codes.specs.Codes.{noScsiAddress}
-use Rattle.rows.specs.Row.{Row, rowAt, deviceIndex}
+use Rattle.rows.specs.Row.{Row, rowAt, sasIndex}
 use Rattle.reports.specs.Report.{Report, report, filled}
 
 -- what row i gives where i is below a, the row count; else no row was found
@@ -14,4 +14,4 @@ osBytes rows a i body = cond (ltb i a) (filled (splice body 16 (rowAt rows i .os
 
 -- "27: the row with that SAS address and LUN gives the four OS bytes"
 unfoldable pub scsiAddress : List Row → ℕ → List ℕ → Report
-scsiAddress rows a body = osBytes rows a (deviceIndex rows a (part body 0 16)) body
+scsiAddress rows a body = osBytes rows a (sasIndex rows a (part body 0 16)) body

@@ -6,7 +6,7 @@ ghost use Rattle.laws.specs.Splice.{part, splice};
 ghost use Rattle.rows.specs.Row.{rowAt, osIndex};
 ghost use Rattle.tables.specs.Tables.{tablesSize, tablesOf};
 ghost use Rattle.reports.specs.Report.{report, filled};
-ghost use Rattle.reports.specs.DeviceAddress.{deviceBytes, deviceAddress};
+ghost use Rattle.reports.specs.DeviceAddress.{sasBytes, deviceAddress};
 
 fn row_of(tables: &[u8], a: usize, body: &[u8]) -> usize
     requires { ⌜ a ≤ 64 ⌝ }
@@ -17,25 +17,25 @@ fn row_of(tables: &[u8], a: usize, body: &[u8]) -> usize
     rows::find_os(&tables[tables::ROWS..tables::SIZE], a, &body[0..4])
 }
 
-fn put_device(tables: &[u8], i: usize, body: &mut [u8]) -> u32
+fn put_sas(tables: &[u8], i: usize, body: &mut [u8]) -> u32
     requires { ⌜ i < 64 ⌝ }
     requires { ⌜ length (now tables) ≡ tablesSize ⌝ }
     requires { ⌜ 20 ≤ length (now body) ⌝ }
     ensures { λ code. ⌜ report code (now (body .exit))
-        ≡ filled (splice (now (body .entry)) 4 (rowAt (tablesOf (now (tables .entry)) .rows) i .device)) ⌝ }
+        ≡ filled (splice (now (body .entry)) 4 (rowAt (tablesOf (now (tables .entry)) .rows) i .sas)) ⌝ }
 {
-    rows::put_device(&tables[tables::ROWS..tables::SIZE], i, body, 4);
+    rows::put_sas(&tables[tables::ROWS..tables::SIZE], i, body, 4);
     codes::SUCCESS
 }
 
-fn give_device(tables: &[u8], a: usize, i: usize, body: &mut [u8]) -> u32
+fn give_sas(tables: &[u8], a: usize, i: usize, body: &mut [u8]) -> u32
     requires { ⌜ a ≤ 64 ⌝ }
     requires { ⌜ length (now tables) ≡ tablesSize ⌝ }
     requires { ⌜ 20 ≤ length (now body) ⌝ }
-    ensures { λ code. ⌜ report code (now (body .exit)) ≡ deviceBytes (tablesOf (now (tables .entry)) .rows) a i (now (body .entry)) ⌝ }
+    ensures { λ code. ⌜ report code (now (body .exit)) ≡ sasBytes (tablesOf (now (tables .entry)) .rows) a i (now (body .entry)) ⌝ }
 {
     if i < a {
-        return put_device(tables, i, body);
+        return put_sas(tables, i, body);
     }
     codes::NO_DEVICE_ADDRESS
 }
@@ -48,5 +48,5 @@ pub fn get_device_address(tables: &[u8], body: &mut [u8]) -> u32
         ≡ deviceAddress (tablesOf (now (tables .entry)) .rows) (tablesOf (now (tables .entry)) .«row_count») (now (body .entry)) ⌝ }
 {
     let a = tables::row_count(tables) as usize;
-    give_device(tables, a, row_of(tables, a, body), body)
+    give_sas(tables, a, row_of(tables, a, body), body)
 }

@@ -3,7 +3,7 @@ ghost use mathlib.Core.Path.{_≡_};
 ghost use Prim.Native.Nat.{_<_, _≤_};
 ghost use lib.ListN.{length};
 ghost use Rattle.laws.specs.Splice.{part, splice};
-ghost use Rattle.rows.specs.Row.{rowAt, deviceIndex};
+ghost use Rattle.rows.specs.Row.{rowAt, sasIndex};
 ghost use Rattle.tables.specs.Tables.{tablesSize, tablesOf};
 ghost use Rattle.reports.specs.Report.{report, filled};
 ghost use Rattle.reports.specs.ScsiAddress.{osBytes, scsiAddress};
@@ -12,9 +12,9 @@ fn row_of(tables: &[u8], a: usize, body: &[u8]) -> usize
     requires { ⌜ a ≤ 64 ⌝ }
     requires { ⌜ length (now tables) ≡ tablesSize ⌝ }
     requires { ⌜ 20 ≤ length (now body) ⌝ }
-    ensures { λ r. ⌜ r ≡ deviceIndex (tablesOf (now (tables .entry)) .rows) a (part (now (body .entry)) 0 16) ⌝ }
+    ensures { λ r. ⌜ r ≡ sasIndex (tablesOf (now (tables .entry)) .rows) a (part (now (body .entry)) 0 16) ⌝ }
 {
-    rows::find_device(&tables[tables::ROWS..tables::SIZE], a, &body[0..16])
+    rows::find_sas(&tables[tables::ROWS..tables::SIZE], a, &body[0..16])
 }
 
 fn put_os(tables: &[u8], i: usize, body: &mut [u8]) -> u32

@@ -19,7 +19,7 @@ fn put_signature(phy: Phy, body: &mut [u8]) -> u32
     codes::SUCCESS
 }
 
-fn held_signature(phy: Phy, body: &mut [u8]) -> u32
+fn signature_report(phy: Phy, body: &mut [u8]) -> u32
     requires { ⌜ 24 ≤ length (now body) ⌝ }
     ensures { λ code. ⌜ report code (now (body .exit)) ≡ signatureOf phy (now (body .entry)) ⌝ }
 {
@@ -32,13 +32,13 @@ fn held_signature(phy: Phy, body: &mut [u8]) -> u32
     codes::NO_SATA_DEVICE
 }
 
-fn signature_of(tables: &[u8], n: PhyIdentifier, body: &mut [u8]) -> u32
+fn existing_signature(tables: &[u8], n: PhyIdentifier, body: &mut [u8]) -> u32
     requires { ⌜ n .0 < 32 ⌝ }
     requires { ⌜ length (now tables) ≡ tablesSize ⌝ }
     requires { ⌜ 24 ≤ length (now body) ⌝ }
     ensures { λ code. ⌜ report code (now (body .exit)) ≡ signatureOf (phyIn (tablesOf (now (tables .entry))) (n .0)) (now (body .entry)) ⌝ }
 {
-    held_signature(tables::phy_at(tables, n), body)
+    signature_report(tables::phy_at(tables, n), body)
 }
 
 pub fn get_signature(tables: &[u8], body: &mut [u8]) -> u32
@@ -48,7 +48,7 @@ pub fn get_signature(tables: &[u8], body: &mut [u8]) -> u32
     ensures { λ code. ⌜ report code (now (body .exit)) ≡ sataSignature (tablesOf (now (tables .entry))) (now (body .entry)) ⌝ }
 {
     if tables::phy_exists(tables, body[0]) {
-        return signature_of(tables, PhyIdentifier(body[0]), body);
+        return existing_signature(tables, PhyIdentifier(body[0]), body);
     }
     codes::PHY_DOES_NOT_EXIST
 }

@@ -7,9 +7,9 @@ use Prim.Native.Nat.{ℕ, _-_, _<_}
 use Rattle.laws.specs.All.{all-at}
 use Rattle.laws.specs.First.{first, first-at, first-only}
 use Rattle.wire.specs.Same.{sameBytes, same-refl, same-eq}
-use Rattle.rows.specs.Row.{Row, rowAt, apart, fresh, rowsHold, deviceIndex, osIndex}
+use Rattle.rows.specs.Row.{Row, rowAt, apart, fresh, rowsHold, sasIndex, osIndex}
 
--- ---- rows that hold share no key, be it the device or the OS bytes
+-- ---- rows that hold share no key, be it the SAS address and LUN or the OS bytes
 
 neither-left : (a b : Bool) → not (a || b) ≡ true → a ≡ false
 neither-left true b p = absurd (false≢true p)
@@ -41,32 +41,32 @@ module _ (key : Row → List ℕ) (rows : List Row) (a : ℕ) where
 
 module _ (rows : List Row) (a : ℕ) where
   -- the row that was found is the one asked for
-  pub device-found : (device : List ℕ) → deviceIndex rows a device < a → rowAt rows (deviceIndex rows a device) .device ≡ device
-  unfolding deviceIndex keyed
-  device-found device h = key-found (λ (r : Row). r .device) rows a device h
+  pub sas-found : (sas : List ℕ) → sasIndex rows a sas < a → rowAt rows (sasIndex rows a sas) .sas ≡ sas
+  unfolding sasIndex keyed
+  sas-found sas h = key-found (λ (r : Row). r .sas) rows a sas h
 
   pub os-found : (os : List ℕ) → osIndex rows a os < a → rowAt rows (osIndex rows a os) .os ≡ os
   unfolding osIndex keyed
   os-found os h = key-found (λ (r : Row). r .os) rows a os h
 
   -- each row is found by its own bytes
-  pub device-own : (i : ℕ) → rowsHold rows a ≡ true → i < a → deviceIndex rows a (rowAt rows i .device) ≡ i
-  unfolding deviceIndex keyed apart
-  device-own i p h =
-      key-own (λ (r : Row). r .device) rows a i h
-      (λ j l. neither-left (sameBytes (rowAt rows j .device) (rowAt rows i .device)) (sameBytes (rowAt rows j .os) (rowAt rows i .os)) (hold-apart rows a i j p l h))
+  pub sas-own : (i : ℕ) → rowsHold rows a ≡ true → i < a → sasIndex rows a (rowAt rows i .sas) ≡ i
+  unfolding sasIndex keyed apart
+  sas-own i p h =
+      key-own (λ (r : Row). r .sas) rows a i h
+      (λ j l. neither-left (sameBytes (rowAt rows j .sas) (rowAt rows i .sas)) (sameBytes (rowAt rows j .os) (rowAt rows i .os)) (hold-apart rows a i j p l h))
 
   pub os-own : (i : ℕ) → rowsHold rows a ≡ true → i < a → osIndex rows a (rowAt rows i .os) ≡ i
   unfolding osIndex keyed apart
   os-own i p h =
       key-own (λ (r : Row). r .os) rows a i h
-      (λ j l. neither-right (sameBytes (rowAt rows j .device) (rowAt rows i .device)) (sameBytes (rowAt rows j .os) (rowAt rows i .os)) (hold-apart rows a i j p l h))
+      (λ j l. neither-right (sameBytes (rowAt rows j .sas) (rowAt rows i .sas)) (sameBytes (rowAt rows j .os) (rowAt rows i .os)) (hold-apart rows a i j p l h))
 
   -- the reply to a 27 fed to a 28 gives the address back, and the other way
-  pub device-back : (device : List ℕ) → rowsHold rows a ≡ true → deviceIndex rows a device < a
-      → rowAt rows (osIndex rows a (rowAt rows (deviceIndex rows a device) .os)) .device ≡ device
-  device-back device p h = rw (os-own (deviceIndex rows a device) p h) (device-found device h)
+  pub sas-back : (sas : List ℕ) → rowsHold rows a ≡ true → sasIndex rows a sas < a
+      → rowAt rows (osIndex rows a (rowAt rows (sasIndex rows a sas) .os)) .sas ≡ sas
+  sas-back sas p h = rw (os-own (sasIndex rows a sas) p h) (sas-found sas h)
 
   pub os-back : (os : List ℕ) → rowsHold rows a ≡ true → osIndex rows a os < a
-      → rowAt rows (deviceIndex rows a (rowAt rows (osIndex rows a os) .device)) .os ≡ os
-  os-back os p h = rw (device-own (osIndex rows a os) p h) (os-found os h)
+      → rowAt rows (sasIndex rows a (rowAt rows (osIndex rows a os) .sas)) .os ≡ os
+  os-back os p h = rw (sas-own (osIndex rows a os) p h) (os-found os h)

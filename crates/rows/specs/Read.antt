@@ -19,9 +19,9 @@ row-part bytes from n at h =
     let e : from + (at + 16) ≡ from + at + 16 = omega arith in
     rw (part-part bytes from n at 16 (omega arith), part-part bytes from n (at + 16) 4 (omega arith), e)
 
-pub length-device : (bytes : List ℕ) (at : ℕ) → at + 20 ≤ length bytes → length (rowOf bytes at .device) ≡ 16
+pub length-sas : (bytes : List ℕ) (at : ℕ) → at + 20 ≤ length bytes → length (rowOf bytes at .sas) ≡ 16
 unfolding rowOf
-length-device bytes at h = length-part bytes at 16 (omega arith)
+length-sas bytes at h = length-part bytes at 16 (omega arith)
 
 pub length-os : (bytes : List ℕ) (at : ℕ) → at + 20 ≤ length bytes → length (rowOf bytes at .os) ≡ 4
 unfolding rowOf
@@ -33,9 +33,9 @@ pub row-in : (b : List ℕ) (i : ℕ) → i < 64 → rowAt (rowsOf b) i ≡ rowO
 unfolding rowsOf
 row-in b i h = getD-listTo (λ (j : ℕ). rowOf b (rowStart j)) 64 i noRow h
 
-pub device-in : (b : List ℕ) (i : ℕ) → i < 64 → rowAt (rowsOf b) i .device ≡ part b (rowStart i) 16
+pub sas-in : (b : List ℕ) (i : ℕ) → i < 64 → rowAt (rowsOf b) i .sas ≡ part b (rowStart i) 16
 unfolding rowOf
-device-in b i h = rw (row-in b i h)
+sas-in b i h = rw (row-in b i h)
 
 pub os-in : (b : List ℕ) (i : ℕ) → i < 64 → rowAt (rowsOf b) i .os ≡ part b (rowStart i + 16) 4
 unfolding rowOf
@@ -44,9 +44,9 @@ os-in b i h = rw (row-in b i h)
 -- ---- what the code finds, with a row's place as a callee answered it
 
 -- one row that differs from x in a byte
-pub device-unlike : (b x : List ℕ) (i at : ℕ) → i < 64 → at ≡ rowStart i → (getD b (at + 7) 0 ≡ getD x 7 0 → ⊥) → false ≡ sameBytes (rowAt (rowsOf b) i .device) x
-device-unlike b x i at h e n =
-    rw (device-in b i h)
+pub sas-unlike : (b x : List ℕ) (i at : ℕ) → i < 64 → at ≡ rowStart i → (getD b (at + 7) 0 ≡ getD x 7 0 → ⊥) → false ≡ sameBytes (rowAt (rowsOf b) i .sas) x
+sas-unlike b x i at h e n =
+    rw (sas-in b i h)
     (sym (ne-same (part b (rowStart i) 16) x (λ p. n (rw e (sym (getD-part b (rowStart i) 16 7 0 (omega arith)) ∙ ap (λ (l : List ℕ). getD l 7 0) p)))))
 
 pub os-unlike-by : (b x : List ℕ) (i at : ℕ) → i < 64 → at ≡ rowStart i → (getD b (at + 16 + 2) 0 ≡ getD x 2 0 → ⊥) → false ≡ sameBytes (rowAt (rowsOf b) i .os) x
@@ -58,17 +58,17 @@ os-unlike-by b x i at h e n =
 whole : (x : List ℕ) (n : ℕ) → length x ≡ n → part x 0 n ≡ x
 whole x n e = ap (part x 0) (sym e) ∙ part-all x
 
-pub device-compared : (b x : List ℕ) (i at : ℕ) (r : Bool) → i < 64 → at ≡ rowStart i → length x ≡ 16 → r ≡ sameBytes (part b at 16) (part x 0 16)
-    → r ≡ sameBytes (rowAt (rowsOf b) i .device) x
-device-compared b x i at r h e l q = q ∙ rw (whole x 16 l, e, ← device-in b i h)
+pub sas-compared : (b x : List ℕ) (i at : ℕ) (r : Bool) → i < 64 → at ≡ rowStart i → length x ≡ 16 → r ≡ sameBytes (part b at 16) (part x 0 16)
+    → r ≡ sameBytes (rowAt (rowsOf b) i .sas) x
+sas-compared b x i at r h e l q = q ∙ rw (whole x 16 l, e, ← sas-in b i h)
 
 pub os-compared : (b x : List ℕ) (i at : ℕ) (r : Bool) → i < 64 → at ≡ rowStart i → length x ≡ 4 → r ≡ sameBytes (part b (at + 16) 4) (part x 0 4)
     → r ≡ sameBytes (rowAt (rowsOf b) i .os) x
 os-compared b x i at r h e l q = q ∙ rw (whole x 4 l, e, ← os-in b i h)
 
 -- and copied
-pub device-put : (b d s : List ℕ) (i from at : ℕ) → i < 64 → from ≡ rowStart i → s ≡ splice d at (part b from 16) → s ≡ splice d at (rowAt (rowsOf b) i .device)
-device-put b d s i from at h e q = q ∙ rw (e, ← device-in b i h)
+pub sas-put : (b d s : List ℕ) (i from at : ℕ) → i < 64 → from ≡ rowStart i → s ≡ splice d at (part b from 16) → s ≡ splice d at (rowAt (rowsOf b) i .sas)
+sas-put b d s i from at h e q = q ∙ rw (e, ← sas-in b i h)
 
 pub os-put : (b d s : List ℕ) (i from at : ℕ) → i < 64 → from ≡ rowStart i → s ≡ splice d at (part b (from + 16) 4) → s ≡ splice d at (rowAt (rowsOf b) i .os)
 os-put b d s i from at h e q = q ∙ rw (e, ← os-in b i h)
@@ -79,11 +79,11 @@ parts-unlike t a b n k l h =
     ne-same (part t a n) (part t b n) (λ p. h (sym (getD-part t a n k 0 l) ∙ ap (λ (x : List ℕ). getD x k 0) p ∙ getD-part t b n k 0 l))
 
 module _ (t : List ℕ) (i j a b : ℕ) (h : i < 64) (k : j < 64) (e : a ≡ rowStart j) (f : b ≡ rowStart i) where
-  pub devices-by : (r : Bool) → r ≡ sameBytes (part t a 16) (part t b 16) → r ≡ sameBytes (rowAt (rowsOf t) j .device) (rowAt (rowsOf t) i .device)
-  devices-by r q = q ∙ rw (e, f, ← device-in t i h, ← device-in t j k)
+  pub sas-by : (r : Bool) → r ≡ sameBytes (part t a 16) (part t b 16) → r ≡ sameBytes (rowAt (rowsOf t) j .sas) (rowAt (rowsOf t) i .sas)
+  sas-by r q = q ∙ rw (e, f, ← sas-in t i h, ← sas-in t j k)
 
-  pub devices-unlike : (getD t (a + 7) 0 ≡ getD t (b + 7) 0 → ⊥) → false ≡ sameBytes (rowAt (rowsOf t) j .device) (rowAt (rowsOf t) i .device)
-  devices-unlike q = devices-by false (sym (parts-unlike t a b 16 7 (omega arith) q))
+  pub sas-pair-unlike : (getD t (a + 7) 0 ≡ getD t (b + 7) 0 → ⊥) → false ≡ sameBytes (rowAt (rowsOf t) j .sas) (rowAt (rowsOf t) i .sas)
+  sas-pair-unlike q = sas-by false (sym (parts-unlike t a b 16 7 (omega arith) q))
 
   pub os-by : (r : Bool) → r ≡ sameBytes (part t (a + 16) 4) (part t (b + 16) 4) → r ≡ sameBytes (rowAt (rowsOf t) j .os) (rowAt (rowsOf t) i .os)
   os-by r q = q ∙ rw (e, f, ← os-in t i h, ← os-in t j k)

@@ -14,12 +14,12 @@ use Rattle.wire.specs.Same.{sameBytes, same-refl, same-eq}
 
 -- a row: its SAS address and LUN, and its four OS bytes, "host index, path, target, LUN"
 pub record Row : Type 0 where
-  pub device : List ℕ
+  pub sas : List ℕ
   pub os : List ℕ
 
 -- "rows of 20 bytes ..: SAS address 8, SAS LUN 8, host index, path, target, LUN": the row whose bytes stand at an index
 unfoldable pub rowOf : List ℕ → ℕ → Row
-rowOf bytes at = record { device = part bytes at 16; os = part bytes (at + 16) 4 }
+rowOf bytes at = record { sas = part bytes at 16; os = part bytes (at + 16) 4 }
 
 -- the 64 rows of an adapter, one behind the other
 abbrev pub rowsSize : ℕ
@@ -33,18 +33,18 @@ rowsOf bytes = listTo (λ (i : ℕ). rowOf bytes (rowStart i)) 64
 
 -- what "zero past p and a" asks of a row
 abbrev pub zeroRow : Row
-zeroRow = record { device = replicate 16 0; os = replicate 4 0 }
+zeroRow = record { sas = replicate 16 0; os = replicate 4 0 }
 
 -- what stands past the end of a list of rows
 abbrev pub noRow : Row
-noRow = record { device = []; os = [] }
+noRow = record { sas = []; os = [] }
 
 abbrev pub rowAt : List Row → ℕ → Row
 rowAt rows i = getD rows i noRow
 
 -- two rows that share neither "SAS address and LUN" nor "all four OS bytes"
 unfoldable pub apart : Row → Row → Bool
-apart r s = not (sameBytes (r .device) (s .device) || sameBytes (r .os) (s .os))
+apart r s = not (sameBytes (r .sas) (s .sas) || sameBytes (r .os) (s .os))
 
 -- row i shares nothing with a row before it
 unfoldable pub fresh : List Row → ℕ → Bool
@@ -56,15 +56,15 @@ rowsHold rows a = allTo (fresh rows) a
 
 -- the row is zero
 unfoldable pub rowZero : Row → Bool
-rowZero r = sameBytes (r .device) (replicate 16 0) && sameBytes (r .os) (replicate 4 0)
+rowZero r = sameBytes (r .sas) (replicate 16 0) && sameBytes (r .os) (replicate 4 0)
 
 -- "zero past p and a": the rows from a up to 64
 unfoldable pub zeroFrom : List Row → ℕ → Bool
 zeroFrom rows a = allTo (λ k. rowZero (rowAt rows (a + k))) (64 - a)
 
 -- "the row with that SAS address and LUN", and "the other way": found where it is below a
-unfoldable pub deviceIndex : List Row → ℕ → List ℕ → ℕ
-deviceIndex rows a device = first (λ i. sameBytes (rowAt rows i .device) device) a
+unfoldable pub sasIndex : List Row → ℕ → List ℕ → ℕ
+sasIndex rows a sas = first (λ i. sameBytes (rowAt rows i .sas) sas) a
 
 unfoldable pub osIndex : List Row → ℕ → List ℕ → ℕ
 osIndex rows a os = first (λ i. sameBytes (rowAt rows i .os) os) a
@@ -72,13 +72,13 @@ osIndex rows a os = first (λ i. sameBytes (rowAt rows i .os) os) a
 -- ---- zero from a on is what it says of each row
 
 made : List ℕ → List ℕ → Row
-made device os = record { device = device; os = os }
+made sas os = record { sas = sas; os = os }
 
 zero-eq : (r : Row) → rowZero r ≡ true → r ≡ zeroRow
 unfolding rowZero made
 zero-eq r p =
-    ap₂ made (same-eq (r .device) (replicate 16 0) (both-left (sameBytes (r .device) (replicate 16 0)) (sameBytes (r .os) (replicate 4 0)) p))
-    (same-eq (r .os) (replicate 4 0) (both-right (sameBytes (r .device) (replicate 16 0)) (sameBytes (r .os) (replicate 4 0)) p))
+    ap₂ made (same-eq (r .sas) (replicate 16 0) (both-left (sameBytes (r .sas) (replicate 16 0)) (sameBytes (r .os) (replicate 4 0)) p))
+    (same-eq (r .os) (replicate 4 0) (both-right (sameBytes (r .sas) (replicate 16 0)) (sameBytes (r .os) (replicate 4 0)) p))
 
 pub zero-at : (rows : List Row) (a i : ℕ) → zeroFrom rows a ≡ true → a ≤ i → i < 64 → rowAt rows i ≡ zeroRow
 unfolding zeroFrom

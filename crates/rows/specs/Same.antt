@@ -27,7 +27,7 @@ module _ (b c : List ℕ) (p : length b ≡ rowsSize) (q : length c ≡ rowsSize
       let r = row-same (j / 20) (omega arith) in
       by-bool (λ (t : Bool). ltb (j % 20) 16 ≡ t → getD b j 0 ≡ getD c j 0)
       (λ t. let s : rowStart (j / 20) + j % 20 ≡ j = omega arith in
-      rw s at (byte-same (rowStart (j / 20)) 16 (j % 20) (ap (λ (x : Row). x .device) r) (ltb-true (j % 20) 16 t)))
+      rw s at (byte-same (rowStart (j / 20)) 16 (j % 20) (ap (λ (x : Row). x .sas) r) (ltb-true (j % 20) 16 t)))
       (λ t. let m : 16 ≤ j % 20 = ltb-false (j % 20) 16 t in
       let s : rowStart (j / 20) + 16 + (j % 20 - 16) ≡ j = omega arith in
       rw s at (byte-same (rowStart (j / 20) + 16) 4 (j % 20 - 16) (ap (λ (x : Row). x .os) r) (omega arith)))

@@ -16,41 +16,41 @@ use Rattle.laws.specs.Splice.{part, part-part}
 use Rattle.wire.specs.Number.{number}
 use Rattle.wire.specs.Same.{ne-same}
 use Rattle.rows.specs.Row.{Row, rowStart, rowsOf, rowAt, apart, fresh, rowsHold}
-use Rattle.rows.specs.Read.{device-in, os-in}
+use Rattle.rows.specs.Read.{sas-in, os-in}
 
 -- a number below 1,024: the sum of its digits in base 1,024
 unfoldable pub folded : ℕ → ℕ
 folded n = (n + n / 1024 + n / 1048576 + n / 1073741824) % 1024
 
 -- the sum of four words
-unfoldable pub deviceWords : List ℕ → ℕ
-deviceWords l = number (part l 0 4) + number (part l 4 4) + number (part l 8 4) + number (part l 12 4)
+unfoldable pub sasWords : List ℕ → ℕ
+sasWords l = number (part l 0 4) + number (part l 4 4) + number (part l 8 4) + number (part l 12 4)
 
 -- the keys of a row
-unfoldable pub deviceKey : Row → ℕ
-deviceKey r = folded (deviceWords (r .device))
+unfoldable pub sasKey : Row → ℕ
+sasKey r = folded (sasWords (r .sas))
 
 unfoldable pub osKey : Row → ℕ
 osKey r = folded (number (r .os))
 
 -- neither is marked, and both are
 unfoldable pub unmarked : List ℕ → List ℕ → ℕ → Bool
-unmarked seen b i = eqb (getD seen (deviceKey (rowAt (rowsOf b) i)) 0) 0 && eqb (getD seen (1024 + osKey (rowAt (rowsOf b) i)) 0) 0
+unmarked seen b i = eqb (getD seen (sasKey (rowAt (rowsOf b) i)) 0) 0 && eqb (getD seen (1024 + osKey (rowAt (rowsOf b) i)) 0) 0
 
 unfoldable pub marked : List ℕ → List ℕ → ℕ → Bool
-marked seen b i = eqb (getD seen (deviceKey (rowAt (rowsOf b) i)) 0) 1 && eqb (getD seen (1024 + osKey (rowAt (rowsOf b) i)) 0) 1
+marked seen b i = eqb (getD seen (sasKey (rowAt (rowsOf b) i)) 0) 1 && eqb (getD seen (1024 + osKey (rowAt (rowsOf b) i)) 0) 1
 
 -- as the code reads them
 pub words-read : (b : List ℕ) (at w x y z : ℕ) → w ≡ number (part b at 4) → x ≡ number (part b (at + 4) 4) → y ≡ number (part b (at + 8) 4)
-    → z ≡ number (part b (at + 12) 4) → w + x + y + z ≡ deviceWords (part b at 16)
-unfolding deviceWords
+    → z ≡ number (part b (at + 12) 4) → w + x + y + z ≡ sasWords (part b at 16)
+unfolding sasWords
 words-read b at w x y z p q r s =
     let e : at + 0 ≡ at = omega arith in
     rw (part-part b at 16 0 4 (omega arith), part-part b at 16 4 4 (omega arith), part-part b at 16 8 4 (omega arith), part-part b at 16 12 4 (omega arith), e, p, q, r, s)
 
-pub device-key-read : (b : List ℕ) (i at n r : ℕ) → i < 64 → at ≡ rowStart i → n ≡ deviceWords (part b at 16) → r ≡ folded n → r ≡ deviceKey (rowAt (rowsOf b) i)
-unfolding deviceKey
-device-key-read b i at n r h e p q = q ∙ rw (p, e, ← device-in b i h)
+pub sas-key-read : (b : List ℕ) (i at n r : ℕ) → i < 64 → at ≡ rowStart i → n ≡ sasWords (part b at 16) → r ≡ folded n → r ≡ sasKey (rowAt (rowsOf b) i)
+unfolding sasKey
+sas-key-read b i at n r h e p q = q ∙ rw (p, e, ← sas-in b i h)
 
 pub os-key-read : (b : List ℕ) (i at n r : ℕ) → i < 64 → at ≡ rowStart i → n ≡ number (part b (at + 16) 4) → r ≡ folded n → r ≡ osKey (rowAt (rowsOf b) i)
 unfolding osKey
@@ -72,16 +72,16 @@ differ x y e p q = omega arith
 
 module _ (seen b : List ℕ) (i : ℕ) (m : allTo (marked seen b) i ≡ true) where
   apart-from : unmarked seen b i ≡ true → (j : ℕ) → j < i → apart (rowAt (rowsOf b) j) (rowAt (rowsOf b) i) ≡ true
-  unfolding unmarked marked apart deviceKey osKey
+  unfolding unmarked marked apart sasKey osKey
   apart-from u j l =
       let r : Row = rowAt (rowsOf b) j in
       let s : Row = rowAt (rowsOf b) i in
-      let k : eqb (getD seen (deviceKey r) 0) 1 && eqb (getD seen (1024 + osKey r) 0) 1 ≡ true = all-at (marked seen b) i j m l in
-      let d1 = eqb-true (getD seen (deviceKey r) 0) 1 (both-left (eqb (getD seen (deviceKey r) 0) 1) (eqb (getD seen (1024 + osKey r) 0) 1) k) in
-      let o1 = eqb-true (getD seen (1024 + osKey r) 0) 1 (both-right (eqb (getD seen (deviceKey r) 0) 1) (eqb (getD seen (1024 + osKey r) 0) 1) k) in
-      let d0 = eqb-true (getD seen (deviceKey s) 0) 0 (both-left (eqb (getD seen (deviceKey s) 0) 0) (eqb (getD seen (1024 + osKey s) 0) 0) u) in
-      let o0 = eqb-true (getD seen (1024 + osKey s) 0) 0 (both-right (eqb (getD seen (deviceKey s) 0) 0) (eqb (getD seen (1024 + osKey s) 0) 0) u) in
-      let d = ne-same (r .device) (s .device) (λ e. differ (getD seen (deviceKey r) 0) (getD seen (deviceKey s) 0) (ap (λ (x : List ℕ). getD seen (folded (deviceWords x)) 0) e) d1 d0) in
+      let k : eqb (getD seen (sasKey r) 0) 1 && eqb (getD seen (1024 + osKey r) 0) 1 ≡ true = all-at (marked seen b) i j m l in
+      let d1 = eqb-true (getD seen (sasKey r) 0) 1 (both-left (eqb (getD seen (sasKey r) 0) 1) (eqb (getD seen (1024 + osKey r) 0) 1) k) in
+      let o1 = eqb-true (getD seen (1024 + osKey r) 0) 1 (both-right (eqb (getD seen (sasKey r) 0) 1) (eqb (getD seen (1024 + osKey r) 0) 1) k) in
+      let d0 = eqb-true (getD seen (sasKey s) 0) 0 (both-left (eqb (getD seen (sasKey s) 0) 0) (eqb (getD seen (1024 + osKey s) 0) 0) u) in
+      let o0 = eqb-true (getD seen (1024 + osKey s) 0) 0 (both-right (eqb (getD seen (sasKey s) 0) 0) (eqb (getD seen (1024 + osKey s) 0) 0) u) in
+      let d = ne-same (r .sas) (s .sas) (λ e. differ (getD seen (sasKey r) 0) (getD seen (sasKey s) 0) (ap (λ (x : List ℕ). getD seen (folded (sasWords x)) 0) e) d1 d0) in
       let o = ne-same (r .os) (s .os) (λ e. differ (getD seen (1024 + osKey r) 0) (getD seen (1024 + osKey s) 0) (ap (λ (x : List ℕ). getD seen (1024 + folded (number x)) 0) e) o1 o0) in
       rw (d, o) refl
 
@@ -102,7 +102,7 @@ stays seen n k h p = at (ℕ-discrete k n)
 here : (seen : List ℕ) (n : ℕ) → n < length seen → eqb (getD (set seen n 1) n 0) 1 ≡ true
 here seen n h = rw (getD-set-same seen n 1 0 h) refl
 
-module _ (seen b : List ℕ) (i x y : ℕ) (n : length seen ≡ 2048) (e : x ≡ deviceKey (rowAt (rowsOf b) i)) (f : y ≡ osKey (rowAt (rowsOf b) i)) (h : x < 1024) (k : y < 1024) where
+module _ (seen b : List ℕ) (i x y : ℕ) (n : length seen ≡ 2048) (e : x ≡ sasKey (rowAt (rowsOf b) i)) (f : y ≡ osKey (rowAt (rowsOf b) i)) (h : x < 1024) (k : y < 1024) where
   abbrev first : List ℕ
   first = set seen x 1
 
@@ -116,10 +116,10 @@ module _ (seen b : List ℕ) (i x y : ℕ) (n : length seen ≡ 2048) (e : x ≡
   unfolding marked
   kept j p =
       let r : Row = rowAt (rowsOf b) j in
-      let d = both-left (eqb (getD seen (deviceKey r) 0) 1) (eqb (getD seen (1024 + osKey r) 0) 1) p in
-      let o = both-right (eqb (getD seen (deviceKey r) 0) 1) (eqb (getD seen (1024 + osKey r) 0) 1) p in
-      both (eqb (getD after (deviceKey r) 0) 1) (eqb (getD after (1024 + osKey r) 0) 1)
-      (stays first (1024 + y) (deviceKey r) long (stays seen x (deviceKey r) (omega arith) d))
+      let d = both-left (eqb (getD seen (sasKey r) 0) 1) (eqb (getD seen (1024 + osKey r) 0) 1) p in
+      let o = both-right (eqb (getD seen (sasKey r) 0) 1) (eqb (getD seen (1024 + osKey r) 0) 1) p in
+      both (eqb (getD after (sasKey r) 0) 1) (eqb (getD after (1024 + osKey r) 0) 1)
+      (stays first (1024 + y) (sasKey r) long (stays seen x (sasKey r) (omega arith) d))
       (stays first (1024 + y) (1024 + osKey r) long (stays seen x (1024 + osKey r) (omega arith) o))
 
   set-now : marked after b i ≡ true

@@ -9,12 +9,12 @@ ghost use Rattle.laws.specs.Splice.{part};
 ghost use Rattle.wire.specs.Number.{number};
 ghost use Rattle.wire.specs.Same.{sameBytes};
 ghost use Rattle.rows.specs.Row.{rowsSize, rowsOf, rowAt, apart, fresh, rowsHold, zeroFrom};
-ghost use Rattle.rows.specs.Seen.{folded, deviceWords, deviceKey, osKey, unmarked, marked};
+ghost use Rattle.rows.specs.Seen.{folded, sasWords, sasKey, osKey, unmarked, marked};
 
 // Two rows have the same SAS address and LUN. The last byte of the address, which seldom is the same, is compared first.
-fn same_device(rows: &[u8], j: usize, i: usize) -> bool
+fn same_sas(rows: &[u8], j: usize, i: usize) -> bool
     requires { ⌜ (i < 64) × (j < 64) × (length (now rows) ≡ rowsSize) ⌝ }
-    ensures { λ r. ⌜ r ≡ sameBytes (rowAt (rowsOf (now (rows .entry))) j .device) (rowAt (rowsOf (now (rows .entry))) i .device) ⌝ }
+    ensures { λ r. ⌜ r ≡ sameBytes (rowAt (rowsOf (now (rows .entry))) j .sas) (rowAt (rowsOf (now (rows .entry))) i .sas) ⌝ }
 {
     let a = place(j);
     let b = place(i);
@@ -42,7 +42,7 @@ fn are_apart(rows: &[u8], j: usize, i: usize) -> bool
     requires { ⌜ (i < 64) × (j < 64) × (length (now rows) ≡ rowsSize) ⌝ }
     ensures { λ r. ⌜ r ≡ apart (rowAt (rowsOf (now (rows .entry))) j) (rowAt (rowsOf (now (rows .entry))) i) ⌝ }
 {
-    !(same_device(rows, j, i) | same_os(rows, j, i))
+    !(same_sas(rows, j, i) | same_os(rows, j, i))
 }
 
 // Row i shares nothing with a row before it.
@@ -61,7 +61,7 @@ fn is_fresh(rows: &[u8], i: usize) -> bool
     true
 }
 
-fn word_at(s: &[u8], at: usize) -> u64
+fn row_word(s: &[u8], at: usize) -> u64
     requires { ⌜ at + 4 ≤ length (now s) ⌝ }
     ensures { λ r. ⌜ (r ≡ number (part (now (s .entry)) at 4)) × (r < 4294967296) ⌝ }
 {
@@ -76,20 +76,20 @@ fn fold(n: u64) -> usize
     ((n + n / 1024 + n / 1048576 + n / 1073741824) % 1024) as usize
 }
 
-fn device_words(rows: &[u8], at: usize) -> u64
+fn sas_words(rows: &[u8], at: usize) -> u64
     requires { ⌜ at + 16 ≤ length (now rows) ⌝ }
-    ensures { λ r. ⌜ (r ≡ deviceWords (part (now (rows .entry)) at 16)) × (r < 17179869184) ⌝ }
+    ensures { λ r. ⌜ (r ≡ sasWords (part (now (rows .entry)) at 16)) × (r < 17179869184) ⌝ }
 {
-    word_at(rows, at) + word_at(rows, at + 4) + word_at(rows, at + 8) + word_at(rows, at + 12)
+    row_word(rows, at) + row_word(rows, at + 4) + row_word(rows, at + 8) + row_word(rows, at + 12)
 }
 
 // The key of row i's SAS address and LUN, and that of its OS bytes: few rows have the same.
-fn device_key(rows: &[u8], i: usize) -> usize
+fn sas_key(rows: &[u8], i: usize) -> usize
     requires { ⌜ (i < 64) × (length (now rows) ≡ rowsSize) ⌝ }
-    ensures { λ r. ⌜ r ≡ deviceKey (rowAt (rowsOf (now (rows .entry))) i) ⌝ }
+    ensures { λ r. ⌜ r ≡ sasKey (rowAt (rowsOf (now (rows .entry))) i) ⌝ }
     ensures { λ r. ⌜ r < 1024 ⌝ }
 {
-    fold(device_words(rows, place(i)))
+    fold(sas_words(rows, place(i)))
 }
 
 fn os_key(rows: &[u8], i: usize) -> usize
@@ -97,7 +97,7 @@ fn os_key(rows: &[u8], i: usize) -> usize
     ensures { λ r. ⌜ r ≡ osKey (rowAt (rowsOf (now (rows .entry))) i) ⌝ }
     ensures { λ r. ⌜ r < 1024 ⌝ }
 {
-    fold(word_at(rows, place(i) + 16))
+    fold(row_word(rows, place(i) + 16))
 }
 
 // Neither of row i's keys is marked.
@@ -106,9 +106,9 @@ fn is_unmarked(seen: &[u8], rows: &[u8], i: usize) -> bool
     requires { ⌜ (i < 64) × (length (now rows) ≡ rowsSize) ⌝ }
     ensures { λ r. ⌜ r ≡ unmarked (now (seen .entry)) (now (rows .entry)) i ⌝ }
 {
-    let device = device_key(rows, i);
+    let sas = sas_key(rows, i);
     let os = 1024 + os_key(rows, i);
-    (seen[device] == 0) & (seen[os] == 0)
+    (seen[sas] == 0) & (seen[os] == 0)
 }
 
 // Marks both.
@@ -118,9 +118,9 @@ fn mark(seen: &mut [u8], rows: &[u8], i: usize)
     requires { ⌜ allTo (marked (now seen) (now rows)) i ≡ true ⌝ }
     ensures { λ _. ⌜ allTo (marked (now (seen .exit)) (now (rows .entry))) (i + 1) ≡ true ⌝ }
 {
-    let device = device_key(rows, i);
+    let sas = sas_key(rows, i);
     let os = 1024 + os_key(rows, i);
-    seen[device] = 1;
+    seen[sas] = 1;
     seen[os] = 1;
 }
 

@@ -3,10 +3,10 @@
 mod find;
 mod hold;
 
-pub use find::find_device;
 pub use find::find_os;
-pub use find::put_device;
+pub use find::find_sas;
 pub use find::put_os;
+pub use find::put_sas;
 pub use hold::rows_hold;
 pub use hold::zero_from;
 ghost use mathlib.Core.Path.{_≡_};

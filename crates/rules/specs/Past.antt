@@ -66,9 +66,9 @@ phys-past t p r n h q =
     q
     ∙ zero-run (λ (i : ℕ). phyZero (phyIn (tablesOf t) (p + i))) t (phyStart p) 104 (32 - p) (omega arith) (λ i l. one-phy t p i n (omega arith))
 
-pub rows-past : (t : List ℕ) (a : ℕ) (r : Bool) → r ≡ zeroFrom (rowsOf (take rowsSize (drop rowsStart t))) a → r ≡ zeroFrom (tablesOf t .rows) a
+pub rows-past-lent : (t : List ℕ) (a : ℕ) (r : Bool) → r ≡ zeroFrom (rowsOf (take rowsSize (drop rowsStart t))) a → r ≡ zeroFrom (tablesOf t .rows) a
 unfolding part
-rows-past t a r q = q ∙ rw (rows-in t)
+rows-past-lent t a r q = q ∙ rw (rows-in t)
 
 -- both
 pub past-by : (ad : Adapter) (p a : ℕ) (r s : Bool) → p ≡ ad .«phy_count» → a ≡ ad .«row_count» → r ≡ physPast (ad .phys) p

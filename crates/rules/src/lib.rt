@@ -36,7 +36,7 @@ fn phys_hold(tables: &[u8], p: u8) -> bool
 }
 
 // Each phy below p passes the field rules.
-pub fn fields_hold(tables: &[u8]) -> bool
+pub fn all_fields_hold(tables: &[u8]) -> bool
     requires { ⌜ length (now tables) ≡ tablesSize ⌝ }
     requires { ⌜ tablesOf (now tables) .«phy_count» ≤ 32 ⌝ }
     ensures { λ r. ⌜ r ≡ fieldsAll (tablesOf (now (tables .entry))) ⌝ }

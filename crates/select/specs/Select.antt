@@ -22,8 +22,8 @@ portGiven port = not (eqb (port .0) 0xff)
 abbrev pub selected : PhyIdentifier → Selection
 selected phy = record { code = success; phy = phy }
 
-abbrev pub none : ℕ → Selection
-none code = record { code = code; phy = record { 0 = 0 } }
+abbrev pub notSelected : ℕ → Selection
+notSelected code = record { code = code; phy = record { 0 = 0 } }
 
 -- "A port alone selects its lowest phy": the first phy below p whose port it is, or p
 unfoldable pub lowestOf : (ℕ → PortIdentifier) → ℕ → PortIdentifier → ℕ
@@ -33,10 +33,10 @@ lowestOf ports p port = first (λ n. eqb (ports n .0) (port .0)) p
 -- with the lowest phy of the port, which is p where no phy has it, and the phy's own port
 unfoldable pub selection : PhyIdentifier → PortIdentifier → ℕ → ℕ → PortIdentifier → Selection
 selection phy port p lowest own =
-    cond (not (phyGiven phy) && not (portGiven port)) (none selectPhyOrPort)
-    (cond (phyGiven phy && leb p (phy .0)) (none phyDoesNotExist)
-    (cond (portGiven port && leb p lowest) (none portDoesNotExist)
-    (cond (phyGiven phy && portGiven port && not (eqb (own .0) (port .0))) (none phyDoesNotMatchPort)
+    cond (not (phyGiven phy) && not (portGiven port)) (notSelected selectPhyOrPort)
+    (cond (phyGiven phy && leb p (phy .0)) (notSelected phyDoesNotExist)
+    (cond (portGiven port && leb p lowest) (notSelected portDoesNotExist)
+    (cond (phyGiven phy && portGiven port && not (eqb (own .0) (port .0))) (notSelected phyDoesNotMatchPort)
     (cond (phyGiven phy) (selected phy) (selected (record { 0 = lowest }))))))
 
 -- the same by the port of each phy below p

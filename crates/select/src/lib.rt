@@ -7,7 +7,7 @@ ghost use Prim.Native.Nat.{_<_, _≤_};
 ghost use lib.Dec.{eqb, leb};
 ghost use lib.ListN.{length};
 ghost use Rattle.tables.specs.Tables.{tablesSize, tablesOf};
-ghost use Rattle.select.specs.Select.{phyGiven, portGiven, lowestOf, selection, none, selected, selectBy, portIn, selectIn};
+ghost use Rattle.select.specs.Select.{phyGiven, portGiven, lowestOf, selection, notSelected, selected, selectBy, portIn, selectIn};
 
 // The phy that was selected, where code is 0.
 pub struct Selection {
@@ -57,8 +57,8 @@ fn of_other_port(phy: PhyIdentifier, port: PortIdentifier, own: PortIdentifier) 
     phy_given(phy) & port_given(port) & (own.0 != port.0)
 }
 
-fn none(code: u32) -> Selection
-    ensures { λ r. ⌜ r ≡ none code ⌝ }
+fn not_selected(code: u32) -> Selection
+    ensures { λ r. ⌜ r ≡ notSelected code ⌝ }
 {
     Selection {
         code,
@@ -76,7 +76,7 @@ fn selected(phy: PhyIdentifier) -> Selection
 }
 
 // With the lowest phy of the port, and the phy's own port.
-fn judge(
+fn choose(
     phy: PhyIdentifier,
     port: PortIdentifier,
     p: u8,
@@ -86,16 +86,16 @@ fn judge(
     ensures { λ r. ⌜ r ≡ selection phy port p lowest own ⌝ }
 {
     if neither_given(phy, port) {
-        return none(codes::SELECT_PHY_OR_PORT);
+        return not_selected(codes::SELECT_PHY_OR_PORT);
     }
     if no_such_phy(phy, p) {
-        return none(codes::PHY_DOES_NOT_EXIST);
+        return not_selected(codes::PHY_DOES_NOT_EXIST);
     }
     if no_such_port(port, p, lowest) {
-        return none(codes::PORT_DOES_NOT_EXIST);
+        return not_selected(codes::PORT_DOES_NOT_EXIST);
     }
     if of_other_port(phy, port, own) {
-        return none(codes::PHY_DOES_NOT_MATCH_PORT);
+        return not_selected(codes::PHY_DOES_NOT_MATCH_PORT);
     }
     if phy_given(phy) {
         return selected(phy);
@@ -141,7 +141,7 @@ fn select_existing(
     requires { ⌜ length (now tables) ≡ tablesSize ⌝ }
     ensures { λ r. ⌜ r ≡ selection phy port p lowest (portIn (tablesOf (now (tables .entry))) (phy .0)) ⌝ }
 {
-    judge(phy, port, p, lowest, tables::port_at(tables, phy))
+    choose(phy, port, p, lowest, tables::port_at(tables, phy))
 }
 
 // With the lowest phy of the port.
@@ -160,7 +160,7 @@ fn select_from(
         return select_existing(tables, p, phy, port, lowest);
     }
     // there is no such phy, so its port does not matter
-    judge(phy, port, p, lowest, port)
+    choose(phy, port, p, lowest, port)
 }
 
 // Out of the phys below p.

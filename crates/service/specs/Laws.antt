@@ -9,7 +9,7 @@ use Rattle.header.specs.Table.{structureSize, dataSize}
 use Rattle.adapter.specs.Adapter.{Adapter}
 use Rattle.adapter.specs.Changed.{Changed, leaves}
 use Rattle.reports.specs.Report.{Report, report}
-use Rattle.passthrough.specs.Passthrough.{Passed, leaves as passes}
+use Rattle.passthrough.specs.Passthrough.{Passed, passes}
 use Rattle.service.specs.Serve.{Store, withMedium, serves, changed, reported, passed}
 
 -- ---- rooms

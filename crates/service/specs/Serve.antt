@@ -13,7 +13,7 @@ use Rattle.reports.specs.PhyInfo.{phyInfo}
 use Rattle.reports.specs.Signature.{sataSignature}
 use Rattle.reports.specs.ScsiAddress.{scsiAddress}
 use Rattle.reports.specs.DeviceAddress.{deviceAddress}
-use Rattle.set_phy_info.specs.SetPhyInfo.{setPhyInfo as setInfo}
+use Rattle.set_phy_info.specs.SetPhyInfo.{setInfo}
 use Rattle.link_errors.specs.LinkErrors.{linkErrors}
 use Rattle.passthrough.specs.Passthrough.{Passed, passthrough}
 

@@ -9,12 +9,12 @@ use Rattle.fields.specs.Rules.{rangeHolds, range-below}
 use Rattle.adapter.specs.Adapter.{Adapter}
 use Rattle.adapter.specs.Changed.{Stored, gives, leaves, withBody}
 use Rattle.set_phy_info.specs.declared.PhySetting.{PhySetting}
-use Rattle.set_phy_info.specs.SetPhyInfo.{programmable, ratesHold, phySet, setPhyInfo}
+use Rattle.set_phy_info.specs.SetPhyInfo.{programmable, ratesAllowed, phySet, setInfo}
 
 -- rates that passed fit the programmed half of a byte
-module _ (phy : Phy) (s : PhySetting) (minimum maximum : ℕ) (r : Bool) (e : r ≡ ratesHold phy s minimum maximum) (q : r ≡ true) where
+module _ (phy : Phy) (s : PhySetting) (minimum maximum : ℕ) (r : Bool) (e : r ≡ ratesAllowed phy s minimum maximum) (q : r ≡ true) where
   below : (minimum < 16) × (maximum < 16)
-  unfolding ratesHold
+  unfolding ratesAllowed
   below =
       range-below phy minimum maximum true
       (sym (both-right (programmable (s .minimum) && programmable (s .maximum)) (rangeHolds phy minimum maximum) (sym e ∙ q))) refl
@@ -26,6 +26,6 @@ module _ (phy : Phy) (s : PhySetting) (minimum maximum : ℕ) (r : Bool) (e : r 
   maximum-below = below .1
 
 -- the body stays
-pub info-by : (ad bd : Adapter) (code : ℕ) (body : List ℕ) → gives code bd ≡ phySet ad body → leaves code bd body ≡ setPhyInfo ad body
-unfolding setPhyInfo
+pub info-by : (ad bd : Adapter) (code : ℕ) (body : List ℕ) → gives code bd ≡ phySet ad body → leaves code bd body ≡ setInfo ad body
+unfolding setInfo
 info-by ad bd code body e = ap (λ (s : Stored). withBody s body) e

@@ -9,7 +9,7 @@ ghost use Rattle.codes.specs.Codes.{phyInfoChanged};
 ghost use Rattle.adapter.specs.Adapter.{phyIn, withPhy};
 ghost use Rattle.adapter.specs.Changed.{gives, leaves};
 ghost use Rattle.tables.specs.Tables.{tablesSize, tablesOf};
-ghost use Rattle.set_phy_info.specs.SetPhyInfo.{asked, programmable, resulting, parametersHold, ratesHold, linked, setTo, setChecked, setPhy, setPhyInfo};
+ghost use Rattle.set_phy_info.specs.SetPhyInfo.{phySetting, programmable, resulting, parametersHold, ratesAllowed, relinked, setTo, setChecked, setPhy, setInfo};
 
 // What a code 21 asks: the negotiated byte, the two programmed bytes, and the signal class.
 pub struct PhySetting {
@@ -20,9 +20,9 @@ pub struct PhySetting {
 }
 
 // The setting in a body.
-fn parse(body: &[u8]) -> PhySetting
+fn phy_setting(body: &[u8]) -> PhySetting
     requires { ⌜ 8 ≤ length (now body) ⌝ }
-    ensures { λ r. ⌜ r ≡ asked (now (body .entry)) ⌝ }
+    ensures { λ r. ⌜ r ≡ phySetting (now (body .entry)) ⌝ }
 {
     PhySetting {
         negotiated: body[1],
@@ -55,8 +55,8 @@ fn parameters_hold(s: PhySetting) -> bool
     (s.negotiated <= 1) & (s.class <= 3)
 }
 
-fn rates_hold(phy: Phy, s: PhySetting, minimum: u8, maximum: u8) -> bool
-    ensures { λ r. ⌜ r ≡ ratesHold phy s minimum maximum ⌝ }
+fn rates_allowed(phy: Phy, s: PhySetting, minimum: u8, maximum: u8) -> bool
+    ensures { λ r. ⌜ r ≡ ratesAllowed phy s minimum maximum ⌝ }
 {
     is_programmable(s.minimum)
         & is_programmable(s.maximum)
@@ -64,8 +64,8 @@ fn rates_hold(phy: Phy, s: PhySetting, minimum: u8, maximum: u8) -> bool
 }
 
 // Disables the phy, or resets its link.
-fn link(negotiated: u8, phy: Phy) -> Phy
-    ensures { λ r. ⌜ r ≡ linked negotiated phy ⌝ }
+fn relink(negotiated: u8, phy: Phy) -> Phy
+    ensures { λ r. ⌜ r ≡ relinked negotiated phy ⌝ }
 {
     if negotiated == 1 {
         return link::disabled(phy);
@@ -78,10 +78,10 @@ fn set_to(phy: Phy, s: PhySetting, minimum: u8, maximum: u8) -> Phy
     ensures { λ r. ⌜ r ≡ setTo phy s minimum maximum ⌝ }
 {
     let configured = phy.configured(s.class, minimum, maximum);
-    link(s.negotiated, configured)
+    relink(s.negotiated, configured)
 }
 
-fn change(
+fn store_setting(
     tables: &mut [u8],
     n: PhyIdentifier,
     phy: Phy,
@@ -114,8 +114,8 @@ fn set_checked(
         return codes::PHY_INFO_NOT_CHANGEABLE;
     }
     if parameters_hold(s) {
-        if rates_hold(phy, s, minimum, maximum) {
-            return change(tables, n, phy, s, minimum, maximum);
+        if rates_allowed(phy, s, minimum, maximum) {
+            return store_setting(tables, n, phy, s, minimum, maximum);
         }
         return codes::LINK_RATE_OUT_OF_RANGE;
     }
@@ -136,10 +136,10 @@ fn set_existing(tables: &mut [u8], n: PhyIdentifier, body: &[u8]) -> u32
     requires { ⌜ n .0 < 32 ⌝ }
     requires { ⌜ length (now tables) ≡ tablesSize ⌝ }
     requires { ⌜ 8 ≤ length (now body) ⌝ }
-    ensures { λ code. ⌜ gives code (tablesOf (now (tables .exit))) ≡ setPhy (tablesOf (now (tables .entry))) n (phyIn (tablesOf (now (tables .entry))) (n .0)) (asked (now (body .entry))) ⌝ }
+    ensures { λ code. ⌜ gives code (tablesOf (now (tables .exit))) ≡ setPhy (tablesOf (now (tables .entry))) n (phyIn (tablesOf (now (tables .entry))) (n .0)) (phySetting (now (body .entry))) ⌝ }
 {
     let phy = tables::phy_at(tables, n);
-    set_phy(tables, n, phy, parse(body))
+    set_phy(tables, n, phy, phy_setting(body))
 }
 
 // Sets a phy's signal class and programmed rates, and disables it or resets its link.
@@ -147,7 +147,7 @@ pub fn set_info(tables: &mut [u8], body: &[u8]) -> u32
     requires { ⌜ length (now tables) ≡ tablesSize ⌝ }
     requires { ⌜ tablesOf (now tables) .«phy_count» ≤ 32 ⌝ }
     requires { ⌜ 8 ≤ length (now body) ⌝ }
-    ensures { λ code. ⌜ leaves code (tablesOf (now (tables .exit))) (now (body .entry)) ≡ setPhyInfo (tablesOf (now (tables .entry))) (now (body .entry)) ⌝ }
+    ensures { λ code. ⌜ leaves code (tablesOf (now (tables .exit))) (now (body .entry)) ≡ setInfo (tablesOf (now (tables .entry))) (now (body .entry)) ⌝ }
 {
     if tables::phy_exists(tables, body[0]) {
         return set_existing(tables, PhyIdentifier(body[0]), body);

@@ -17,7 +17,7 @@ use Rattle.layout.specs.Layout.{phyCount, rowCount}
 use Rattle.file.specs.File.{fileRead, adapterOf}
 use Rattle.file.specs.Accepted.{Accepted, accepted, zero-read}
 use Rattle.state.specs.State.{tablesHold, adapterHolds, stateHolds}
-use Rattle.state.specs.Open.{Opened, refused, opened, tablesNumber, openNumber, openedFile, openedText, openedOf}
+use Rattle.state.specs.Open.{Opened, refusedOpening, opened, tablesNumber, openNumber, openedFile, openedText, openedOf}
 
 -- the opening's number is 0
 abbrev Fine : Opened → Type 0
@@ -61,10 +61,10 @@ open-accepted text file medium h =
     Zero : ℕ → Type 0
     Zero n = n ≡ 0
 
-    passes : (n : ℕ) (o : Opened) → Fine (cond (eqb n 0) o (refused n)) → (n ≡ 0) × Fine o
-    passes n o h = by-bool (λ (b : Bool). eqb n 0 ≡ b → Fine (cond b o (refused n)) → (n ≡ 0) × Fine o) (λ e p. (eqb-true n 0 e, p)) (λ e p. absurd (eqb-false n 0 e p)) (eqb n 0) refl h
+    passes : (n : ℕ) (o : Opened) → Fine (cond (eqb n 0) o (refusedOpening n)) → (n ≡ 0) × Fine o
+    passes n o h = by-bool (λ (b : Bool). eqb n 0 ≡ b → Fine (cond b o (refusedOpening n)) → (n ≡ 0) × Fine o) (λ e p. (eqb-true n 0 e, p)) (λ e p. absurd (eqb-false n 0 e p)) (eqb n 0) refl h
 
-    settles : (n : ℕ) (o : Opened) → Fine (cond (eqb n 0) o (refused n)) → n ≡ 0
+    settles : (n : ℕ) (o : Opened) → Fine (cond (eqb n 0) o (refusedOpening n)) → n ≡ 0
     settles n o h = passes n o h .0
 
     -- of two numbers in order the first that is not 0

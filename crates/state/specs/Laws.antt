@@ -20,10 +20,10 @@ use Rattle.adapter.specs.Store.{phys-bound, rows-bound}
 use Rattle.tables.specs.Tables.{tablesSize, tablesOf}
 use Rattle.tables.specs.Laws.{rows-in}
 use Rattle.tables.specs.Zero.{zero-tables}
-use Rattle.file.specs.File.{FileRead, left, fileRead, adapterOf}
+use Rattle.file.specs.File.{FileRead, reads, fileRead, adapterOf}
 use Rattle.file.specs.Accepted.{accepted}
 use Rattle.state.specs.State.{State, stateWith, stateSize, stateOf, zeroState, tablesHold, adapterHolds, stateHolds}
-use Rattle.state.specs.Open.{Opened, opens, refused, opened, tablesNumber, openNumber, settled, openedFile, openedText, openedOf, OpenCall}
+use Rattle.state.specs.Open.{Opened, opens, refusedOpening, opened, tablesNumber, openNumber, settled, openedFile, openedText, openedOf, OpenCall}
 
 -- ---- the tables behind the level's byte
 
@@ -59,7 +59,7 @@ zero-state : stateOf (zeros stateSize) ≡ zeroState
 unfolding stateOf zeroState
 zero-state = ap (stateWith (record { 0 = 0 })) (ap tablesOf drop-zeros ∙ zero-tables)
 
-pub refused-state : (s t : List ℕ) (call : ℕ) → length s ≡ stateSize → t ≡ splice s 0 (zeros stateSize) → opens call (stateOf t) ≡ refused call
+pub refused-state : (s t : List ℕ) (call : ℕ) → length s ≡ stateSize → t ≡ splice s 0 (zeros stateSize) → opens call (stateOf t) ≡ refusedOpening call
 refused-state s t call e q = ap (opens call) (ap stateOf (cleared-all s t stateSize e q) ∙ zero-state)
 
 -- the level stored
@@ -69,7 +69,7 @@ accepted-state (x ∷ s) level e = refl
 accepted-state [] level e = absurd (omega arith)
 
 -- what was read, and its number
-module _ (file : List ℕ) (call : ℕ) (ad : Adapter) (e : left call ad ≡ fileRead file) where
+module _ (file : List ℕ) (call : ℕ) (ad : Adapter) (e : reads call ad ≡ fileRead file) where
   call-read : call ≡ fileRead file .call
   call-read = ap (λ (f : FileRead). f .call) e
 

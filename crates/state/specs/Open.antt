@@ -5,7 +5,7 @@ use mathlib.Core.List.{List}
 use Prim.Native.Nat.{ℕ}
 use lib.Dec.{eqb}
 use lib.ListN.{length}
-use Rattle.codes.specs.Codes.{badField, sharedRow, mediumLength, badState}
+use Rattle.codes.specs.Codes.{badField, sharedRow, badMediumLength, badState}
 use Rattle.level.specs.declared.Level.{Level}
 use Rattle.level.specs.declared.TextLevel.{TextLevel}
 use Rattle.level.specs.Text.{textLevel}
@@ -24,8 +24,8 @@ abbrev pub opens : ℕ → State → Opened
 opens call s = record { call = call; state = s }
 
 -- "A refused opening returns the zero state"
-abbrev pub refused : ℕ → Opened
-refused call = opens call zeroState
+abbrev pub refusedOpening : ℕ → Opened
+refusedOpening call = opens call zeroState
 
 -- "The state is the level and what the file holds"
 abbrev pub opened : Level → Adapter → Opened
@@ -36,7 +36,7 @@ unfoldable pub tablesNumber : Adapter → ℕ → ℕ
 tablesNumber ad size =
     cond (negotiatedAll ad)
     (cond (rowsHold (ad .rows) (ad .«row_count»))
-    (cond (eqb (mediumSize ad) size) 0 mediumLength)
+    (cond (eqb (mediumSize ad) size) 0 badMediumLength)
     sharedRow)
     badField
 
@@ -46,7 +46,7 @@ openNumber f size = cond (eqb (f .call) 0) (tablesNumber (f .adapter) size) (f .
 
 -- what is left by a number: the state of a level and an adapter where it is 0
 abbrev pub settled : ℕ → Level → Adapter → Opened
-settled number level ad = cond (eqb number 0) (opened level ad) (refused number)
+settled number level ad = cond (eqb number 0) (opened level ad) (refusedOpening number)
 
 -- the file
 unfoldable pub openedFile : Level → FileRead → ℕ → Opened
@@ -54,7 +54,7 @@ openedFile level f size = settled (openNumber f size) level (f .adapter)
 
 -- what the text says, or its number, and then the file
 unfoldable pub openedText : TextLevel → List ℕ → ℕ → Opened
-openedText t file size = cond (eqb (t .call) 0) (openedFile (t .level) (fileRead file) size) (refused (t .call))
+openedText t file size = cond (eqb (t .call) 0) (openedFile (t .level) (fileRead file) size) (refusedOpening (t .call))
 
 -- "text; file under 512 bytes; ..; fields; rows; medium length"
 unfoldable pub openedOf : List ℕ → List ℕ → List ℕ → Opened

@@ -40,7 +40,7 @@ fn tables_hold(tables: &[u8]) -> bool
     requires { ⌜ (tablesOf (now tables) .«phy_count» ≤ 32) × (tablesOf (now tables) .«row_count» ≤ 64) ⌝ }
     ensures { λ r. ⌜ r ≡ tablesHold (tablesOf (now (tables .entry))) ⌝ }
 {
-    rules::fields_hold(tables)
+    rules::all_fields_hold(tables)
         & link::all_negotiated(tables)
         & rows_apart(tables)
         & rules::zero_past(tables)

@@ -11,12 +11,12 @@ ghost use Rattle.tables.specs.Tables.{tablesSize, tablesOf};
 ghost use Rattle.level.specs.Text.{textLevel};
 ghost use Rattle.file.specs.File.{fileRead};
 ghost use Rattle.state.specs.State.{stateSize, stateOf};
-ghost use Rattle.state.specs.Open.{opens, refused, opened, tablesNumber, openNumber, settled, openedFile, openedText, openedOf, OpenCall};
+ghost use Rattle.state.specs.Open.{opens, refusedOpening, opened, tablesNumber, openNumber, settled, openedFile, openedText, openedOf, OpenCall};
 
 // Leaves the zero state.
-fn refuse(state: &mut [u8], call: u32) -> u32
+fn refuse_opening(state: &mut [u8], call: u32) -> u32
     requires { ⌜ length (now state) ≡ stateSize ⌝ }
-    ensures { λ r. ⌜ opens r (stateOf (now (state .exit))) ≡ refused call ⌝ }
+    ensures { λ r. ⌜ opens r (stateOf (now (state .exit))) ≡ refusedOpening call ⌝ }
 {
     wire::clear(state, 0, SIZE);
     call
@@ -38,7 +38,7 @@ fn settle(state: &mut [u8], number: u32, level: Level) -> u32
     if number == 0 {
         return accept(state, level);
     }
-    refuse(state, number)
+    refuse_opening(state, number)
 }
 
 // The negotiated rates, the rows and the medium's length.
@@ -52,7 +52,7 @@ fn tables_number(tables: &[u8], size: usize) -> u32
             if disks_size(tables) == size {
                 return 0;
             }
-            return codes::MEDIUM_LENGTH;
+            return codes::BAD_MEDIUM_LENGTH;
         }
         return codes::SHARED_ROW;
     }
@@ -96,7 +96,7 @@ fn open_text(state: &mut [u8], t: TextLevel, file: &[u8], size: usize) -> u32
     if t.call == 0 {
         return open_file(state, t.level, file, size);
     }
-    refuse(state, t.call)
+    refuse_opening(state, t.call)
 }
 
 fn open_state(text: &[u8], file: &[u8], size: usize, state: &mut [u8]) -> u32

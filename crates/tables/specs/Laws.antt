@@ -28,22 +28,22 @@ pub phy-in : (t : List ℕ) (n : ℕ) → n < 32 → phyIn (tablesOf t) n ≡ ph
 unfolding tablesOf
 phy-in t n h = getD-listTo (phyAt t) 32 n noPhy h
 
-pub phy-read : (t : List ℕ) (n : ℕ) (r : Phy) → n < 32 → r ≡ phyAt t n → r ≡ phyIn (tablesOf t) n
-phy-read t n r h e = e ∙ sym (phy-in t n h)
+pub tables-phy : (t : List ℕ) (n : ℕ) (r : Phy) → n < 32 → r ≡ phyAt t n → r ≡ phyIn (tablesOf t) n
+tables-phy t n r h e = e ∙ sym (phy-in t n h)
 
 -- the arrays have the lengths of their types
-pub length-phys : (t : List ℕ) → length (tablesOf t .phys) ≡ 32
+pub tables-phys : (t : List ℕ) → length (tablesOf t .phys) ≡ 32
 unfolding tablesOf
-length-phys t = length-listTo (phyAt t) 32
+tables-phys t = length-listTo (phyAt t) 32
 
-pub length-entity : (t : List ℕ) (n : ℕ) → length t ≡ tablesSize → n < 32 → length (phyIn (tablesOf t) n .entity) ≡ 64
+pub tables-entity : (t : List ℕ) (n : ℕ) → length t ≡ tablesSize → n < 32 → length (phyIn (tablesOf t) n .entity) ≡ 64
 unfolding phyAt phyOf
-length-entity t n e h = rw (phy-in t n h) (length-part _ 0 64 (rw (length-part t (phyStart n) 104 (omega arith)) (omega arith)))
+tables-entity t n e h = rw (phy-in t n h) (length-part _ 0 64 (rw (length-part t (phyStart n) 104 (omega arith)) (omega arith)))
 
 -- a part lent to the reading of a phy
 pub phy-lent : (t : List ℕ) (from n : ℕ) (r : Phy) → n < 32 → from ≡ phyStart n → r ≡ phyOf (take (from + 104 - from) (drop from t)) → r ≡ phyIn (tablesOf t) n
 unfolding phyAt part
-phy-lent t from n r h e q = phy-read t n r h (q ∙ rw (add-sub-cancel-left, e))
+phy-lent t from n r h e q = tables-phy t n r h (q ∙ rw (add-sub-cancel-left, e))
 
 -- the entity of phy n, as a part of the bytes, and copied
 entity-in : (t : List ℕ) (n : ℕ) → n < 32 → phyIn (tablesOf t) n .entity ≡ part t (phyStart n) 64

@@ -1,7 +1,7 @@
 -- `disk::act` meets its contract. Assumes nothing.
 use Rattle.laws.specs.Choice.{picks}
 use Rattle.disk.specs.Disk.{acted}
-use Rattle.disk.specs.Stores.{left-by, rooms}
+use Rattle.disk.specs.Stores.{performs-by, rooms}
 use borrow.Author.Needs.{needs}
 use Rattle.disk.proofs.act.Statement.{statement}
 use Rattle.disk.proofs.act.Tie as tie
@@ -11,8 +11,8 @@ unfolding acted
 act-spec =
     tie.close
     (tie.spec (λ c. search picks) (λ c κs. search needs) (λ c. search needs)
-    (λ c. search (left-by, picks) depth 9) (λ c κs. search (rooms, needs)) (λ c. search needs) (λ c. search needs)
-    (λ c. search (left-by, picks) depth 9) (λ c κs. search (rooms, needs)) (λ c. search needs)
-    (λ c. search (left-by, picks) depth 9) (λ c κs. search (rooms, needs)) (λ c. search needs) (λ c. search needs)
-    (λ c. search (left-by, picks) depth 9) (λ c κs. search needs) (λ c. search needs)
-    (λ c. search (left-by, picks) depth 9))
+    (λ c. search (performs-by, picks) depth 9) (λ c κs. search (rooms, needs)) (λ c. search needs) (λ c. search needs)
+    (λ c. search (performs-by, picks) depth 9) (λ c κs. search (rooms, needs)) (λ c. search needs)
+    (λ c. search (performs-by, picks) depth 9) (λ c κs. search (rooms, needs)) (λ c. search needs) (λ c. search needs)
+    (λ c. search (performs-by, picks) depth 9) (λ c κs. search needs) (λ c. search needs)
+    (λ c. search (performs-by, picks) depth 9))

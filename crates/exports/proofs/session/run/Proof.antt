@@ -51,6 +51,6 @@ run-spec =
       search (i, m .medium .given, needs),
       search (i, s .session .given, needs),
       search (i, l .lines .given, needs),
-      run-goes-on _ _ _ _ _ _ _ _ (i .7) _ (f .end-from .ensures .0) (e .if1 .left) (f .end-from .ensures .1 .1) (i .1) w _ _ _ (h .handle-sized .ensures) (s .session .given .0),
-      number-next _ _ _ _ _ _ _ _ (h .handle-sized .ensures) (i .3) (i .8),
+      run-goes-on _ _ _ _ _ _ _ _ (i .7) _ (f .end-from .ensures .0) (e .if1 .left) (f .end-from .ensures .1 .1) (i .1) w _ _ _ (h .record-sized .ensures) (s .session .given .0),
+      number-next _ _ _ _ _ _ _ _ (h .record-sized .ensures) (i .3) (i .8),
     )) (λ c. search needs) (λ c. search needs) (λ c. search needs) (λ c. search needs) (λ c. search (run-full, needs)))

@@ -1,12 +1,12 @@
 -- `level::need::listed` meets its contract. Assumes nothing.
 use Prim.Native.Nat.{_-_, _≤_}
 use lib.ListN.{length}
-use Rattle.level.specs.Need.{Passed, listed-loop}
+use Rattle.level.specs.Need.{PassedOver, listed-loop}
 use Rattle.level.proofs.need.listed.Statement.{statement}
 use Rattle.level.proofs.need.listed.Tie as tie
 
 abbrev Inv-loop : tie.InvT-loop
-Inv-loop command list i₀ i = (i ≤ length list) × Passed command list i
+Inv-loop command list i₀ i = (i ≤ length list) × PassedOver command list i
 
 abbrev μ-loop : tie.MeasureT-loop
 μ-loop command list i₀ i = length list - i

@@ -1,0 +1,9 @@
+-- `disk::perform` meets its contract. Assumes nothing.
+use borrow.Author.Needs.{needs}
+use Rattle.disk.proofs.perform.Statement.{statement}
+use Rattle.disk.proofs.perform.Tie as tie
+
+pub perform-spec : {M : Type 1} → statement M
+perform-spec =
+    tie.close
+    (tie.spec (λ c κs. search needs) (λ c κs. search needs) (λ c. search needs) (λ c. search needs) (λ c. cc))

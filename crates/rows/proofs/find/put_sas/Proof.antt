@@ -1,0 +1,10 @@
+-- `rows::find::put_sas` meets its contract. Assumes nothing.
+use Rattle.rows.specs.Read.{sas-put}
+use borrow.Author.Needs.{needs}
+use Rattle.rows.proofs.find.put_sas.Statement.{statement}
+use Rattle.rows.proofs.find.put_sas.Tie as tie
+
+pub put-sas-spec : {M : Type 1} → statement M
+put-sas-spec =
+    tie.close
+    (tie.spec (λ c κs. search needs) (λ c κs. search needs) (λ c. search needs) (λ c. search (sas-put, needs)))
