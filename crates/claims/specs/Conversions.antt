@@ -25,7 +25,7 @@ use Rattle.reports.specs.DeviceAddress.{sasBytes, deviceAddress}
 use Rattle.state.specs.Open.{openedOf}
 use Rattle.state.specs.Accepted.{Open, open-accepted, open-holds}
 use Rattle.header.specs.Table.{structureSize}
-use Rattle.service.specs.Serve.{reported, changed, reportOf, served}
+use Rattle.service.specs.Serve.{Store, reported, changed, reportOf, served}
 use Rattle.dispatch.specs.Laws.{number-state, checks-room}
 use Rattle.dispatch.specs.Request.{Request, formOf, controlOf, bodyOf, checksCode, Point, Outcome, bufferNumber, pointNumber, inBuffer, answered, replied, answeredAt, handled}
 use Rattle.claims.specs.Run.{exchangeOf, step, openedAt, wholeRun}
@@ -181,15 +181,15 @@ module _ (p : Point) (w : AcceptedRows p) where
 
 -- ---- every point of a run from an opening that accepts is such a point
 
-opened-rows : (text file medium : List ℕ) → openedOf text file medium .call ≡ 0 → AcceptedRows (openedAt text file medium)
+opened-rows : (text file : List ℕ) (store : Store) → openedOf text file (store .medium) .call ≡ 0 → AcceptedRows (openedAt text file store)
 unfolding adapterOf fileRow
-opened-rows text file medium h =
-    let o : Open text file medium = open-accepted text file medium h in
+opened-rows text file store h =
+    let o : Open text file (store .medium) = open-accepted text file (store .medium) h in
     let p : ℕ = phyCount file in
     let n : ℕ = rowCount file in
     let inside : (i : ℕ) → i < n → rowPlace p i + 20 ≤ length file = λ i l. row-within file p n i l (sym (o .read .size)) in
     record {
-      number = number-zero (openedOf text file medium .state) (length medium) (open-holds text file medium h) (rw (o .opened) (sym (o .disks)));
+      number = number-zero (openedOf text file (store .medium) .state) (length (store .medium)) (open-holds text file (store .medium) h) (rw (o .opened) (sym (o .disks)));
       sas = rw (o .opened) (λ i l. ap (λ (x : Row). length (x .sas)) (getD-padded (fileRow file p) n 64 i zeroRow noRow l) ∙ length-sas file (rowPlace p i) (inside i l));
       os = rw (o .opened) (λ i l. ap (λ (x : Row). length (x .os)) (getD-padded (fileRow file p) n 64 i zeroRow noRow l) ∙ length-os file (rowPlace p i) (inside i l));
     }
@@ -200,8 +200,8 @@ rows-reached start p i w =
     record { number = i .number ∙ w .number; sas = rw (i .moved .rows, i .moved .rowCount) (w .sas); os = rw (i .moved .rows, i .moved .rowCount) (w .os) }
 
 -- after an opening that accepts and any list of requests
-pub round-trip : (text file medium : List ℕ) → openedOf text file medium .call ≡ 0 → (requests : List Request) → RoundTrip (wholeRun text file medium requests .point)
-round-trip text file medium h requests =
-    let start : Point = openedAt text file medium in
-    let p : Point = wholeRun text file medium requests .point in
-    both-ways p (rows-reached start p (reached start (sized-opened text file medium h) requests) (opened-rows text file medium h))
+pub round-trip : (text file : List ℕ) (store : Store) → openedOf text file (store .medium) .call ≡ 0 → (requests : List Request) → RoundTrip (wholeRun text file store requests .point)
+round-trip text file store h requests =
+    let start : Point = openedAt text file store in
+    let p : Point = wholeRun text file store requests .point in
+    both-ways p (rows-reached start p (reached start (sized-opened text file store h) requests) (opened-rows text file store h))

@@ -27,13 +27,13 @@ use Rattle.file.specs.Accepted.{phy-read, length-phys}
 use Rattle.adapter.specs.Adapter.{Adapter, phyIn, zeroAdapter, countsHold}
 use Rattle.adapter.specs.Store.{phys-bound}
 use Rattle.select.specs.Select.{lowestOf, selection, selectBy}
-use Rattle.select.specs.Laws.{selection-past}
-use Rattle.passthrough.specs.Passthrough.{phyAsked, portAsked}
+use Rattle.select.specs.Laws.{identifier-by, selection-portful}
+use Rattle.stp.specs.Body.{phyAsked, portAsked}
 use Rattle.state.specs.State.{stateWith, adapterHolds, stateHolds, zeroState}
 use Rattle.state.specs.Open.{Opened, refusedOpening, opened, openNumber, openedFile, openedText, openedOf}
 use Rattle.state.specs.Accepted.{Open, open-accepted}
-use Rattle.service.specs.Serve.{storeOf}
-use Rattle.dispatch.specs.Request.{Request, Point, pointOf, Outcome, stateNumber, bufferNumber, untouched, handled}
+use Rattle.service.specs.Serve.{Store}
+use Rattle.dispatch.specs.Request.{Request, Point, point, Outcome, stateNumber, bufferNumber, untouched, handled}
 use Rattle.claims.specs.Run.{Exchange, Entry, replyOf, exchangeOf, step, entryOf, run, openedAt, wholeRun, exchanges, requestsIn, notDenied, denial}
 use Rattle.claims.specs.LastWriter.{toldBy, Writer, after, last, Sector, sectorIn, sectorWriter, selectsBy, rateWriter}
 use Rattle.claims.specs.Claim.{LastWriterHalf, OneRun, givenBoth, higherRun, Claim}
@@ -58,22 +58,23 @@ select-same : (f g : ℕ → PortIdentifier) (p : ℕ) (phy : PhyIdentifier) (po
 unfolding selectBy lowestOf
 select-same f g p phy port h =
     let l : lowestOf f p port ≡ lowestOf g p port =
-    first-same (λ (n : ℕ). eqb (f n .0) (port .0)) (λ (n : ℕ). eqb (g n .0) (port .0)) p (λ n k. ap (λ (x : PortIdentifier). eqb (x .0) (port .0)) (h n k)) in
+    identifier-by _ _ (first-same (λ (n : ℕ). eqb (f n .0) (port .0)) (λ (n : ℕ). eqb (g n .0) (port .0)) p
+    (λ n k. ap (λ (x : PortIdentifier). eqb (x .0) (port .0)) (h n k))) in
     rw l
     (by-bool (λ (t : Bool). ltb (phy .0) p ≡ t
     → selection phy port p (lowestOf g p port) (f (phy .0)) ≡ selection phy port p (lowestOf g p port) (g (phy .0)))
     (λ e. rw (h (phy .0) (ltb-true (phy .0) p e)))
-    (λ e. selection-past phy port p (lowestOf g p port) (f (phy .0)) (g (phy .0)) (selection phy port p (lowestOf g p port) (f (phy .0))) (ltb-false (phy .0) p e) refl)
+    (λ e. selection-portful phy port p (lowestOf g p port) (f (phy .0)) (g (phy .0)) (ltb-false (phy .0) p e))
     (ltb (phy .0) p) refl)
 
 -- ---- where the opening accepts
 
-module _ (text file medium : List ℕ) (h : openedOf text file medium .call ≡ 0) where
+module _ (text file : List ℕ) (store : Store) (h : openedOf text file (store .medium) .call ≡ 0) where
   abbrev start : Point
-  start = openedAt text file medium
+  start = openedAt text file store
 
-  opening : Open text file medium
-  opening = open-accepted text file medium h
+  opening : Open text file (store .medium)
+  opening = open-accepted text file (store .medium) h
 
   few : phyCount file ≤ 32
   few = phys-bound (phyCount file) (rowCount file) true (sym (opening .read .counts)) refl
@@ -105,22 +106,22 @@ module _ (text file medium : List ℕ) (h : openedOf text file medium .call ≡ 
       (select-same (λ (n : ℕ). portOf (phyIn (p .state .adapter) n)) (λ (n : ℕ). portOf (filePhy file n)) (phyCount file) (phyAsked body) (portAsked body)
       (λ n k. i .moved .phys n (sized-opened .entities n (rw counted k)) .port ∙ ap portOf (starts n k)))
 
-  sectors-last : (s : Sector) (requests : List Request) → sectorIn (wholeRun text file medium requests .point .store) s
-      ≡ last (sectorWriter (selectsBy file)) s (sectorIn (storeOf medium) s) (exchanges (wholeRun text file medium requests .log))
+  sectors-last : (s : Sector) (requests : List Request) → sectorIn (wholeRun text file store requests .point .store) s
+      ≡ last (sectorWriter (selectsBy file)) s (sectorIn store s) (exchanges (wholeRun text file store requests .log))
   unfolding after
   sectors-last s =
       last-by start sized-opened (sectorWriter (selectsBy file)) s (λ (p : Point). sectorIn (p .store) s)
       (λ p r i. rw (← (selects-same p i)) (request-effect p r (sized-reached start sized-opened p i) .store .sectors s))
 
-  minima-last : (n : ℕ) → n < phyCount file → (requests : List Request) → programmedMinimum (phyIn (wholeRun text file medium requests .point .state .adapter) n)
-      ≡ last (rateWriter 2) n (programmedMinimum (filePhy file n)) (exchanges (wholeRun text file medium requests .log))
+  minima-last : (n : ℕ) → n < phyCount file → (requests : List Request) → programmedMinimum (phyIn (wholeRun text file store requests .point .state .adapter) n)
+      ≡ last (rateWriter 2) n (programmedMinimum (filePhy file n)) (exchanges (wholeRun text file store requests .log))
   minima-last n l requests =
       rw (starts n l) at
       (last-by start sized-opened (rateWriter 2) n (λ (p : Point). programmedMinimum (phyIn (p .state .adapter) n))
       (λ p r i. request-effect p r (sized-reached start sized-opened p i) .tables .minima n) requests)
 
-  maxima-last : (n : ℕ) → n < phyCount file → (requests : List Request) → programmedMaximum (phyIn (wholeRun text file medium requests .point .state .adapter) n)
-      ≡ last (rateWriter 3) n (programmedMaximum (filePhy file n)) (exchanges (wholeRun text file medium requests .log))
+  maxima-last : (n : ℕ) → n < phyCount file → (requests : List Request) → programmedMaximum (phyIn (wholeRun text file store requests .point .state .adapter) n)
+      ≡ last (rateWriter 3) n (programmedMaximum (filePhy file n)) (exchanges (wholeRun text file store requests .log))
   maxima-last n l requests =
       rw (starts n l) at
       (last-by start sized-opened (rateWriter 3) n (λ (p : Point). programmedMaximum (phyIn (p .state .adapter) n))
@@ -139,45 +140,45 @@ opened-zero text file medium =
     Zero o = (o .call ≡ 0 → ⊥) → o .state ≡ zeroState
 
 -- 107 refuses the zero state, so it goes on as it is
-zero-step : (medium : List ℕ) (r : Request) → handled (pointOf zeroState medium) r ≡ untouched badState (pointOf zeroState medium) r
+zero-step : (store : Store) (r : Request) → handled (point zeroState store) r ≡ untouched badState (point zeroState store) r
 unfolding handled bufferNumber stateNumber stateHolds adapterHolds countsHold zeroState zeroAdapter
-zero-step medium r = refl
+zero-step store r = refl
 
-zero-run : (medium : List ℕ) (requests : List Request) → ends step entryOf (pointOf zeroState medium) requests ≡ pointOf zeroState medium
-zero-run medium requests =
-    kept step entryOf (λ (p : Point). p ≡ pointOf zeroState medium) (λ p r e. rw e (ap (λ (o : Outcome). o .point) (zero-step medium r)))
-    (pointOf zeroState medium) requests refl
+zero-run : (store : Store) (requests : List Request) → ends step entryOf (point zeroState store) requests ≡ point zeroState store
+zero-run store requests =
+    kept step entryOf (λ (p : Point). p ≡ point zeroState store) (λ p r e. rw e (ap (λ (o : Outcome). o .point) (zero-step store r)))
+    (point zeroState store) requests refl
 
-refused-run : (text file medium : List ℕ) (requests : List Request) → (openedOf text file medium .call ≡ 0 → ⊥)
-    → wholeRun text file medium requests .point ≡ pointOf zeroState medium
-refused-run text file medium requests h = rw (opened-zero text file medium h) (zero-run medium requests)
+refused-run : (text file : List ℕ) (store : Store) (requests : List Request) → (openedOf text file (store .medium) .call ≡ 0 → ⊥)
+    → wholeRun text file store requests .point ≡ point zeroState store
+refused-run text file store requests h = rw (opened-zero text file (store .medium) h) (zero-run store requests)
 
 -- ---- one run
 
-last-writer : (text file medium : List ℕ) (requests : List Request) → LastWriterHalf text file medium (wholeRun text file medium requests)
-last-writer text file medium requests =
+last-writer : (text file : List ℕ) (store : Store) (requests : List Request) → LastWriterHalf text file store (wholeRun text file store requests)
+last-writer text file store requests =
     record {
-      sectors = λ h s _ _. sectors-last text file medium h s requests;
-      minima = λ h n l. minima-last text file medium h n l requests;
-      maxima = λ h n l. maxima-last text file medium h n l requests;
-      size = kept-size (ℕ-discrete (openedOf text file medium .call) 0);
-      refusedState = λ h. ap (λ (p : Point). p .state) (refused-run text file medium requests h);
-      refusedStore = λ h. ap (λ (p : Point). p .store) (refused-run text file medium requests h);
+      sectors = λ h s _ _. sectors-last text file store h s requests;
+      minima = λ h n l. minima-last text file store h n l requests;
+      maxima = λ h n l. maxima-last text file store h n l requests;
+      size = kept-size (ℕ-discrete (openedOf text file (store .medium) .call) 0);
+      refusedState = λ h. ap (λ (p : Point). p .state) (refused-run text file store requests h);
+      refusedStore = λ h. ap (λ (p : Point). p .store) (refused-run text file store requests h);
     }
   where
-    kept-size : Dec (openedOf text file medium .call ≡ 0) → length (wholeRun text file medium requests .point .store .medium) ≡ length medium
-    kept-size (yes h) = reached (openedAt text file medium) (sized-opened text file medium h) requests .size
-    kept-size (no h) = ap (λ (p : Point). length (p .store .medium)) (refused-run text file medium requests h)
+    kept-size : Dec (openedOf text file (store .medium) .call ≡ 0) → length (wholeRun text file store requests .point .store .medium) ≡ length (store .medium)
+    kept-size (yes h) = reached (openedAt text file store) (sized-opened text file store h) requests .size
+    kept-size (no h) = ap (λ (p : Point). length (p .store .medium)) (refused-run text file store requests h)
 
-one-run : (text file medium : List ℕ) (requests : List Request) → OneRun text file medium requests (wholeRun text file medium requests)
-one-run text file medium requests =
-    let p : Point = openedAt text file medium in
+one-run : (text file : List ℕ) (store : Store) (requests : List Request) → OneRun text file store requests (wholeRun text file store requests)
+one-run text file store requests =
+    let p : Point = openedAt text file store in
     record {
       answered = all-noted step entryOf (λ (e : Entry). e .exchange .sent) (λ _ _. refl) p requests;
       level = kept step entryOf (λ (q : Point). q .state .level ≡ p .state .level) (λ q r e. level-kept q r ∙ e) p requests refl;
       denials = noted step entryOf (λ (e : Entry). e .denied ≡ true → e .exchange .reply ≡ denial (e .exchange .sent))
           (λ q r d. ap (λ (o : Outcome). replyOf o) (denied-step q r d)) p requests;
-      last = last-writer text file medium requests;
+      last = last-writer text file store requests;
     }
 
 -- ---- two runs
@@ -209,20 +210,20 @@ after-given p q r t d e a =
     )
 
 -- two openings of one file and one medium, by texts that give levels
-opened-alike : (medium : List ℕ) (l m : Level) (f : FileRead) (size : ℕ) → l .0 ≤ m .0 → m .0 ≤ 3
-    → Alike (pointOf (openedFile l f size .state) medium) (pointOf (openedFile m f size .state) medium)
+opened-alike : (store : Store) (l m : Level) (f : FileRead) (size : ℕ) → l .0 ≤ m .0 → m .0 ≤ 3
+    → Alike (point (openedFile l f size .state) store) (point (openedFile m f size .state) store)
 unfolding openedFile zeroState
-opened-alike medium l m f size h k =
-    by-bool (λ (t : Bool). Alike (pointOf (cond t (opened l (f .adapter)) (refusedOpening (openNumber f size)) .state) medium)
-    (pointOf (cond t (opened m (f .adapter)) (refusedOpening (openNumber f size)) .state) medium))
+opened-alike store l m f size h k =
+    by-bool (λ (t : Bool). Alike (point (cond t (opened l (f .adapter)) (refusedOpening (openNumber f size)) .state) store)
+    (point (cond t (opened m (f .adapter)) (refusedOpening (openNumber f size)) .state) store))
     (record { adapter = refl; store = refl; levels = h; bound = k }) (record { adapter = refl; store = refl; levels = omega arith; bound = omega arith })
     (eqb (openNumber f size) 0)
 
-texts-alike : (low high file medium : List ℕ) → textLevel low .call ≡ 0 → textLevel high .call ≡ 0 → textLevel low .level .0 ≤ textLevel high .level .0
-    → Alike (openedAt low file medium) (openedAt high file medium)
+texts-alike : (low high file : List ℕ) (store : Store) → textLevel low .call ≡ 0 → textLevel high .call ≡ 0 → textLevel low .level .0 ≤ textLevel high .level .0
+    → Alike (openedAt low file store) (openedAt high file store)
 unfolding openedOf openedText
-texts-alike low high file medium p q h =
-    rw (p, q) (opened-alike medium (textLevel low .level) (textLevel high .level) (fileRead file) (length medium) h (level-bound high))
+texts-alike low high file store p q h =
+    rw (p, q) (opened-alike store (textLevel low .level) (textLevel high .level) (fileRead file) (length (store .medium)) h (level-bound high))
 
 -- the runs are given the same requests
 abbrev SameRequest : Point → Point → Request → Request → Type 0
@@ -236,11 +237,11 @@ two-runs p q requests a =
     (matched-own step entryOf (λ (e : Entry). e .denied) SameRequest (λ (e : Entry). e .exchange .sent) (λ _ _. refl) (λ _ _ _. refl) p q requests)
 
 pub claim : Claim
-claim low high file medium requests =
+claim low high file store requests =
     record {
-      lower = one-run low file medium requests;
-      higher = one-run high file medium (givenBoth low high file medium requests);
+      lower = one-run low file store requests;
+      higher = one-run high file store (givenBoth low high file store requests);
       comparison = λ p q h.
-          let c = two-runs (openedAt low file medium) (openedAt high file medium) requests (texts-alike low high file medium p q h) in
-          record { tables = ap (λ (ad : Adapter). stateWith (higherRun low high file medium requests .point .state .level) ad) (c .related .adapter); disks = c .related .store; replies = c .same };
+          let c = two-runs (openedAt low file store) (openedAt high file store) requests (texts-alike low high file store p q h) in
+          record { tables = ap (λ (ad : Adapter). stateWith (higherRun low high file store requests .point .state .level) ad) (c .related .adapter); disks = c .related .store; replies = c .same };
     }

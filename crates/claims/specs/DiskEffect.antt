@@ -14,14 +14,16 @@ use Rattle.laws.specs.Splice.{part, splice, length-part, length-splice, part-sp
 use Rattle.codes.specs.Codes.{success, invalidParameter, connectionFailed, stpPassthru}
 use Rattle.phy.specs.declared.PhyIdentifier.{PhyIdentifier}
 use Rattle.phy.specs.declared.PortIdentifier.{PortIdentifier}
-use Rattle.disk.specs.Disk.{fis, command, lba, dataLength, performed, Performed, Lent}
+use Rattle.stp.specs.Body.{fis, command, dataLength}
+use Rattle.disk.specs.Disk.{lba, performed, Performed, Lent}
 use Rattle.disk.specs.Ways.{served-by}
 use Rattle.disk.specs.Laws.{sector, replyStatus, writes, covers, sectorAfter, disk-length, sector-after}
 use Rattle.adapter.specs.Adapter.{Adapter, mediumSize, phyIn}
 use Rattle.select.specs.declared.Selection.{Selection}
 use Rattle.select.specs.Select.{selection, selectBy, lowestOf, phyGiven, portGiven, portIn}
 use Rattle.select.specs.Laws.{selected-below}
-use Rattle.passthrough.specs.Passthrough.{Passed, passes, phyAsked, portAsked, connectionRate, destinationOf, formHolds, connected, diskOf, onDisk, sentTo, passedTo, passthrough}
+use Rattle.stp.specs.Body.{phyAsked, portAsked, connectionRate, destinationOf}
+use Rattle.passthrough.specs.Passthrough.{Passed, passes, formHolds, connected, diskOf, onDisk, sentTo, passedTo, passthrough}
 use Rattle.service.specs.Serve.{Store, withMedium, passed}
 use Rattle.claims.specs.LastWriter.{Told, after, Sector, sectorIn, sectorWriter, rateWriter}
 use Rattle.claims.specs.Effect.{quiet-other, selectsIn, OnStore, Does, tables-kept, no-effect}
@@ -34,10 +36,10 @@ module _ (ad : Adapter) (medium body : List ℕ) where
   chosen-code =
       let phy : PhyIdentifier = phyAsked body in
       let port : PortIdentifier = portAsked body in
-      let lowest : ℕ = lowestOf (portIn ad) (ad .«phy_count») port in
+      let lowest : PhyIdentifier = lowestOf (portIn ad) (ad .«phy_count») port in
       either Small (not (phyGiven phy) && not (portGiven port)) (omega arith)
       (either Small (phyGiven phy && leb (ad .«phy_count») (phy .0)) (omega arith)
-      (either Small (portGiven port && leb (ad .«phy_count») lowest) (omega arith)
+      (either Small (portGiven port && leb (ad .«phy_count») (lowest .0)) (omega arith)
       (either Small (phyGiven phy && portGiven port && not (eqb (portIn ad (phy .0) .0) (port .0))) (omega arith)
       (either Small (phyGiven phy) (omega arith) (omega arith)))))
     where

@@ -1,6 +1,6 @@
 -- What a request does to the tables and to what is lent beside them, said once for each control code: one record, from which every statement about
 -- a run takes its part. Assumes nothing.
-use mathlib.Core.Path.{_≡_, refl, sym}
+use mathlib.Core.Path.{_≡_, refl, sym, _∙_}
 use mathlib.Core.Logic.{_≢_}
 use mathlib.Core.Bool.{Bool, true, false, cond, _&&_}
 use mathlib.Core.List.{List}
@@ -13,13 +13,13 @@ use Rattle.laws.specs.Choice.{by-bool}
 use Rattle.codes.specs.Codes.{setPhyInfo, stpPassthru}
 use Rattle.phy.specs.declared.Phy.{Phy}
 use Rattle.phy.specs.Entity.{programmedMinimum, programmedMaximum}
-use Rattle.phy.specs.Kept.{Kept}
+use Rattle.phy.specs.Kept.{Kept, Settings}
 use Rattle.fields.specs.Rules.{fieldsHold}
 use Rattle.adapter.specs.Adapter.{Adapter, phyIn, withPhy}
 use Rattle.link.specs.Rule.{negotiatedHolds}
 use Rattle.select.specs.declared.Selection.{Selection}
 use Rattle.select.specs.Select.{selectIn}
-use Rattle.passthrough.specs.Passthrough.{phyAsked, portAsked}
+use Rattle.stp.specs.Body.{phyAsked, portAsked}
 use Rattle.state.specs.State.{adapterHolds}
 use Rattle.service.specs.Serve.{Store, Served}
 use Rattle.claims.specs.LastWriter.{Told, Writer, after, Sector, sectorIn, sectorWriter, rateWriter}
@@ -102,6 +102,20 @@ pub record Storing (ad : Adapter) (t : Told) (n : ℕ) (phy : Phy) : Type 0 wher
   pub minimum : programmedMinimum phy ≡ after (rateWriter 2) n t (programmedMinimum (phyIn ad n))
   pub maximum : programmedMaximum phy ≡ after (rateWriter 3) n t (programmedMaximum (phyIn ad n))
   pub others : (place m before : ℕ) → m ≢ n → after (rateWriter place) m t before ≡ before
+
+-- one that a code other than 21 stores: its settings stay
+pub storing-kept : (ad : Adapter) (t : Told) (n : ℕ) (phy : Phy) → (t .control ≡ setPhyInfo → ⊥) → n < ad .«phy_count» → Kept (phyIn ad n) phy
+    → fieldsHold phy (record { 0 = n }) (ad .«phy_count») ≡ true → negotiatedHolds phy ≡ true → Settings (phyIn ad n) phy → Storing ad t n phy
+storing-kept ad t n phy c k v f g s =
+    record {
+      below = k;
+      kept = v;
+      fields = f;
+      negotiated = g;
+      minimum = s .minimum ∙ sym (quiet-other (rateWriter 2) t c n (programmedMinimum (phyIn ad n)));
+      maximum = s .maximum ∙ sym (quiet-other (rateWriter 3) t c n (programmedMaximum (phyIn ad n)));
+      others = λ place m before _. quiet-other (rateWriter place) t c m before;
+    }
 
 pub stored-effect : (ad : Adapter) (t : Told) (n : ℕ) (phy : Phy) → adapterHolds ad ≡ true → Sized ad → Storing ad t n phy → OnTables ad t (withPhy ad n phy)
 stored-effect ad t n phy h z s =

@@ -11,13 +11,15 @@ use Rattle.codes.specs.Codes.{success, setPhyInfo, stpPassthru}
 use Rattle.phy.specs.Entity.{portOf, programmedMinimum, programmedMaximum}
 use Rattle.layout.specs.Layout.{phyCount}
 use Rattle.file.specs.File.{filePhy}
-use Rattle.disk.specs.Disk.{command, lba}
+use Rattle.stp.specs.Body.{command}
+use Rattle.disk.specs.Disk.{lba}
 use Rattle.disk.specs.Laws.{sector, replyStatus, covers}
 use Rattle.select.specs.declared.Selection.{Selection}
 use Rattle.select.specs.Select.{selectBy}
-use Rattle.passthrough.specs.Passthrough.{phyAsked, portAsked, diskOf}
+use Rattle.stp.specs.Body.{phyAsked, portAsked}
+use Rattle.passthrough.specs.Passthrough.{diskOf}
 use Rattle.header.specs.Form.{behindHeader, returnCode}
-use Rattle.service.specs.Serve.{Store, storeOf}
+use Rattle.service.specs.Serve.{Store}
 use Rattle.dispatch.specs.Request.{formOf, controlOf, bodyOf}
 use Rattle.claims.specs.Run.{Exchange}
 
@@ -91,8 +93,8 @@ unfoldable pub selectsBy : List ℕ → List ℕ → Selection
 selectsBy file body = selectBy (λ n. portOf (filePhy file n)) (phyCount file) (phyAsked body) (portAsked body)
 
 -- "A sector starts as the medium has it"
-abbrev pub lastSector : List ℕ → List ℕ → List Exchange → Sector → List ℕ
-lastSector file medium xs s = last (sectorWriter (selectsBy file)) s (sectorIn (storeOf medium) s) xs
+abbrev pub lastSector : List ℕ → Store → List Exchange → Sector → List ℕ
+lastSector file store xs s = last (sectorWriter (selectsBy file)) s (sectorIn store s) xs
 
 -- ---- programmed rates
 

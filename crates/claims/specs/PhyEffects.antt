@@ -29,7 +29,7 @@ use Rattle.state.specs.State.{adapterHolds}
 use Rattle.service.specs.Serve.{Store, changed}
 use Rattle.claims.specs.LastWriter.{Told, after, rateWriter, sectorWriter}
 use Rattle.claims.specs.Moved.{Sized, fields-in, negotiated-in}
-use Rattle.claims.specs.Effect.{quiet-other, selectsIn, Does, store-kept, no-effect, report-effect, Storing, stored-effect}
+use Rattle.claims.specs.Effect.{quiet-other, selectsIn, Does, store-kept, no-effect, report-effect, Storing, storing-kept, stored-effect}
 
 -- the phy that a body names
 abbrev named : List ℕ → ℕ
@@ -162,20 +162,10 @@ module _ (ad : Adapter) (store : Store) (body : List ℕ) (h : adapterHolds ad �
   abbrev toldErrors : Told
   toldErrors = record { granted = true; control = getLinkErrors; body = body; reply = countersShown body (phy .counters) }
 
-  no-rate : (place m before : ℕ) → after (rateWriter place) m toldErrors before ≡ before
-  no-rate place = quiet-other (rateWriter place) toldErrors (λ e. omega arith)
-
   errors-storing : n < ad .«phy_count» → Storing ad toldErrors n (cleared phy)
   errors-storing k =
-      record {
-        below = k;
-        kept = kept-cleared phy;
-        fields = fields-cleared phy (record { 0 = n }) (ad .«phy_count») ∙ fields-in ad h n k;
-        negotiated = holds-cleared phy ∙ negotiated-in ad h n k;
-        minimum = settings-cleared phy .minimum ∙ sym (no-rate 2 n (programmedMinimum phy));
-        maximum = settings-cleared phy .maximum ∙ sym (no-rate 3 n (programmedMaximum phy));
-        others = λ place m before _. no-rate place m before;
-      }
+      storing-kept ad toldErrors n (cleared phy) (λ e. omega arith) k (kept-cleared phy)
+      (fields-cleared phy (record { 0 = n }) (ad .«phy_count») ∙ fields-in ad h n k) (holds-cleared phy ∙ negotiated-in ad h n k) (settings-cleared phy)
 
   pub errors-effect : Does ad store getLinkErrors body (changed store (linkErrors ad body))
   errors-effect =

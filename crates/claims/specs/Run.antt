@@ -8,7 +8,8 @@ use Rattle.laws.specs.Runs.{ends, log, shownBy, undropped}
 use Rattle.codes.specs.Codes.{writeAttempted}
 use Rattle.state.specs.Open.{openedOf}
 use Rattle.header.specs.Form.{withCode}
-use Rattle.dispatch.specs.Request.{Request, formOf, needAbove, Point, pointOf, Outcome, callNumber, handled}
+use Rattle.service.specs.Serve.{Store}
+use Rattle.dispatch.specs.Request.{Request, formOf, needAbove, Point, point, Outcome, callNumber, handled}
 
 -- "A reply is the call's number and the whole buffer afterwards"
 pub record Reply : Type 0 where
@@ -56,11 +57,11 @@ abbrev pub run : Point → List Request → End
 run p requests = record { point = ends step entryOf p requests; log = log step entryOf p requests }
 
 -- "A run is an opening, then a list of requests .., the first from the opening .. Where the opening refuses, the zero state goes on"
-abbrev pub openedAt : List ℕ → List ℕ → List ℕ → Point
-openedAt text file medium = pointOf (openedOf text file medium .state) medium
+abbrev pub openedAt : List ℕ → List ℕ → Store → Point
+openedAt text file store = point (openedOf text file (store .medium) .state) store
 
-abbrev pub wholeRun : List ℕ → List ℕ → List ℕ → List Request → End
-wholeRun text file medium requests = run (openedAt text file medium) requests
+abbrev pub wholeRun : List ℕ → List ℕ → Store → List Request → End
+wholeRun text file store requests = run (openedAt text file store) requests
 
 -- ---- the parts of a log
 

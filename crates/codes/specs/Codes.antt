@@ -1,4 +1,4 @@
--- The numbers of CSMI's section 10, each said once, under section 10's names: control codes and return codes. Where document
+-- The numbers of CSMI's section 10, each said once, under section 10's names: control codes, link rates, device types and return codes. Where document
 -- 01 prints another number, section 10 decides, as document 01 says. The call's own numbers are document 01's.
 -- Assumes nothing.
 use Prim.Native.Nat.{ℕ}
@@ -28,6 +28,41 @@ getScsiAddress = 27
 
 abbrev pub getDeviceAddress : ℕ
 getDeviceAddress = 28
+
+-- link rates (6.7.3)
+
+-- "1 (disabled)"
+abbrev pub phyDisabled : ℕ
+phyDisabled = 1
+
+-- "2 (failed)"
+abbrev pub linkRateFailed : ℕ
+linkRateFailed = 2
+
+-- "Rate codes are 8 (1.5 Gb/s) and 9 (3.0)"
+abbrev pub linkRate15 : ℕ
+linkRate15 = 8
+
+abbrev pub linkRate30 : ℕ
+linkRate30 = 9
+
+-- attached device types: "00h none, 10h end device, 20h edge, 30h fanout expander"
+
+abbrev pub noDeviceAttached : ℕ
+noDeviceAttached = 0x00
+
+abbrev pub endDevice : ℕ
+endDevice = 0x10
+
+abbrev pub edgeExpander : ℕ
+edgeExpander = 0x20
+
+abbrev pub fanoutExpander : ℕ
+fanoutExpander = 0x30
+
+-- connection status (6.12)
+abbrev pub openAccept : ℕ
+openAccept = 0
 
 -- return codes ("In the return code", document 01)
 

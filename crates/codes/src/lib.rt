@@ -1,4 +1,4 @@
-// The numbers of CSMI's section 10, each said once: control codes and return codes. The call's own numbers are document 01's.
+// The numbers of CSMI's section 10, each said once: control codes, link rates, device types and return codes. The call's own numbers are document 01's.
 
 // Control codes.
 pub const GET_DRIVER_INFO: u32 = 1;
@@ -16,6 +16,27 @@ pub const GET_SATA_SIGNATURE: u32 = 26;
 pub const GET_SCSI_ADDRESS: u32 = 27;
 
 pub const GET_DEVICE_ADDRESS: u32 = 28;
+
+// Link rates.
+pub const PHY_DISABLED: u8 = 1;
+
+pub const LINK_RATE_FAILED: u8 = 2;
+
+pub const LINK_RATE_1_5: u8 = 8;
+
+pub const LINK_RATE_3_0: u8 = 9;
+
+// Attached device types.
+pub const NO_DEVICE_ATTACHED: u8 = 0x00;
+
+pub const END_DEVICE: u8 = 0x10;
+
+pub const EDGE_EXPANDER: u8 = 0x20;
+
+pub const FANOUT_EXPANDER: u8 = 0x30;
+
+// Connection status.
+pub const OPEN_ACCEPT: u8 = 0;
 
 // Return codes.
 pub const SUCCESS: u32 = 0;

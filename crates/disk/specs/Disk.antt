@@ -5,22 +5,15 @@ use mathlib.Core.Path.{_≡_}
 use mathlib.Core.List.{List, [], _∷_, _++_}
 use Prim.Native.Nat.{ℕ, _+_, _*_, _/_, _%_, _≤_}
 use lib.Dec.{eqb, ltb}
-use lib.ListN.{length, getD, replicate}
+use lib.ListN.{length, replicate}
 use Rattle.laws.specs.Splice.{part, splice}
-use Rattle.codes.specs.Codes.{invalidParameter}
-use Rattle.wire.specs.Number.{number, bytes}
+use Rattle.codes.specs.Codes.{success, invalidParameter, openAccept}
+use Rattle.wire.specs.Number.{bytes}
+use Rattle.stp.specs.Body.{fis, command, dataLength, statusPlace, dataPlace}
 use Rattle.disk.specs.declared.AtaCommand.{AtaCommand}
 use Rattle.disk.specs.declared.Answer.{Answer}
 
 -- ---- what the request asks
-
--- byte i of the command FIS
-abbrev pub fis : List ℕ → ℕ → ℕ
-fis body i = getD body (16 + i) 0
-
--- the command's code, byte 2 of the command FIS
-abbrev pub command : List ℕ → ℕ
-command body = fis body 2
 
 -- "Bit 6 of byte 7" is set
 abbrev pub addressed : List ℕ → Bool
@@ -36,10 +29,6 @@ countOf byte = cond (eqb byte 0) 256 byte
 
 abbrev pub count : List ℕ → ℕ
 count body = countOf (fis body 12)
-
--- uDataLength
-abbrev pub dataLength : List ℕ → ℕ
-dataLength body = number (part body 40 4)
 
 -- all of it together, as the code reads it
 unfoldable pub ataCommand : List ℕ → AtaCommand
@@ -98,14 +87,14 @@ statusFis body status error twelve =
     ∷ fis body 4 ∷ fis body 5 ∷ fis body 6 ∷ fis body 7 ∷ fis body 8 ∷ fis body 9 ∷ fis body 10 ∷ fis body 11 ∷ twelve ∷ fis body 13
     ∷ 0 ∷ 0 ∷ 0 ∷ 0 ∷ 0 ∷ 0 ∷ []
 
--- "connection OPEN_ACCEPT", which is 0; "uSCR and reserved bytes 0; uDataBytes the bytes moved"
+-- "connection OPEN_ACCEPT"; "uSCR and reserved bytes 0; uDataBytes the bytes moved"
 unfoldable pub statusOf : List ℕ → ℕ → Answer → List ℕ
 statusOf body twelve a =
-    (0 ∷ 0 ∷ 0 ∷ 0 ∷ []) ++ (statusFis body (a .status) (a .error) twelve ++ (replicate 64 0 ++ bytes 4 (a .moved)))
+    (openAccept ∷ 0 ∷ 0 ∷ 0 ∷ []) ++ (statusFis body (a .status) (a .error) twelve ++ (replicate 64 0 ++ bytes 4 (a .moved)))
 
 -- the body with Status filled in
 unfoldable pub withStatus : List ℕ → AtaCommand → Answer → List ℕ
-withStatus body r a = splice body 44 (statusOf body (byteTwelve (r .command) (fis body 12)) a)
+withStatus body r a = splice body statusPlace (statusOf body (byteTwelve (r .command) (fis body 12)) a)
 
 -- ---- what a request leaves
 
@@ -123,11 +112,11 @@ performs code disk body = record { code = code; disk = disk; body = body }
 unfoldable pub acted : List ℕ → List ℕ → AtaCommand → Answer → Performed
 acted disk body r a =
     cond (ltb (r .«data_length») (a .moved)) (performs invalidParameter disk body)
-    (cond (eqb (a .status) 0x51) (performs 0 disk (withStatus body r a))
-    (cond (eqb (r .command) 0x20) (performs 0 disk (splice (withStatus body r a) 136 (sectors disk r)))
-    (cond (eqb (r .command) 0xec) (performs 0 disk (splice (withStatus body r a) 136 identify))
-    (cond (eqb (r .command) 0x30) (performs 0 (splice disk (512 * r .lba) (part body 136 (512 * r .count))) (withStatus body r a))
-    (performs 0 disk (withStatus body r a))))))
+    (cond (eqb (a .status) 0x51) (performs success disk (withStatus body r a))
+    (cond (eqb (r .command) 0x20) (performs success disk (splice (withStatus body r a) dataPlace (sectors disk r)))
+    (cond (eqb (r .command) 0xec) (performs success disk (splice (withStatus body r a) dataPlace identify))
+    (cond (eqb (r .command) 0x30) (performs success (splice disk (512 * r .lba) (part body dataPlace (512 * r .count))) (withStatus body r a))
+    (performs success disk (withStatus body r a))))))
 
 -- a request as it came
 unfoldable pub performed : List ℕ → List ℕ → Performed
@@ -135,4 +124,4 @@ performed disk body = acted disk body (ataCommand body) (answerOf body)
 
 -- what a caller sees to: the disk is whole, and the body has the fixed part and n bytes of data
 abbrev pub Lent : List ℕ → List ℕ → ℕ → Type 0
-Lent disk body n = (length disk ≡ 8192) × (136 + n ≤ length body)
+Lent disk body n = (length disk ≡ 8192) × (dataPlace + n ≤ length body)

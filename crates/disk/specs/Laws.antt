@@ -13,7 +13,8 @@ use Rattle.laws.specs.Splice.{part, splice, length-part, length-splice, part-pa
 use Rattle.wire.specs.Number.{bytes}
 use Rattle.disk.specs.declared.Answer.{Answer}
 use Rattle.disk.specs.declared.AtaCommand.{AtaCommand}
-use Rattle.disk.specs.Disk.{fis, command, lba, count, dataLength, ataCommand, answerOf, byteTwelve, statusOf, withStatus, Performed, performed, Lent}
+use Rattle.stp.specs.Body.{fis, command, dataLength}
+use Rattle.disk.specs.Disk.{lba, count, ataCommand, answerOf, byteTwelve, statusOf, withStatus, Performed, performed, Lent}
 use Rattle.disk.specs.Ways.{writing, served-by}
 
 -- sector s of a disk

@@ -14,7 +14,8 @@ use Rattle.laws.specs.Splice.{part, splice}
 use Rattle.wire.specs.Number.{bytes}
 use Rattle.disk.specs.declared.Answer.{Answer}
 use Rattle.disk.specs.declared.AtaCommand.{AtaCommand}
-use Rattle.disk.specs.Disk.{performs, succeeds, fails, transfer, answerBy, statusOf, ataCommand, dataLength}
+use Rattle.stp.specs.Body.{dataLength}
+use Rattle.disk.specs.Disk.{performs, succeeds, fails, transfer, answerBy, statusOf, ataCommand}
 
 -- bytes 4 to 13 of the command FIS, one by one
 part-ten : (s : List ℕ) → 136 ≤ length s

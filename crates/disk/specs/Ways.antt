@@ -12,7 +12,8 @@ use Rattle.laws.specs.Splice.{part, splice, length-part}
 use Rattle.wire.specs.Number.{bytes}
 use Rattle.disk.specs.declared.Answer.{Answer}
 use Rattle.disk.specs.declared.AtaCommand.{AtaCommand}
-use Rattle.disk.specs.Disk.{dataLength, ataCommand, succeeds, transfer, answerOf, answerTo, identify, sectors, withStatus, Performed, performs, acted, performed, Lent}
+use Rattle.stp.specs.Body.{dataLength}
+use Rattle.disk.specs.Disk.{ataCommand, succeeds, transfer, answerOf, answerTo, identify, sectors, withStatus, Performed, performs, acted, performed, Lent}
 use Rattle.disk.specs.Stores.{Succeeds, transferred, read-transfers, write-transfers, sectors-inside, sectors-room, identify-room}
 
 no-and : (t : Bool) → t && false ≡ false

@@ -28,17 +28,22 @@ fn sector_count(byte: u8) -> u32
     byte as u32
 }
 
-// The command FIS starts at 16 of the body, and uDataLength stands at 40.
+// What the body asks.
 pub fn ata_command(body: &[u8]) -> AtaCommand
     requires { ⌜ 136 ≤ length (now body) ⌝ }
     ensures { λ r. ⌜ r ≡ ataCommand (now (body .entry)) ⌝ }
 {
     AtaCommand {
-        command: body[18],
-        addressed: bit_six(body[23]),
-        lba: address(body[20], body[21], body[22], body[23]),
-        count: sector_count(body[28]),
-        data_length: wire::read32(body, 40),
+        command: body[stp::COMMAND],
+        addressed: bit_six(body[stp::DEVICE]),
+        lba: address(
+            body[stp::LBA_LOW],
+            body[stp::LBA_MIDDLE],
+            body[stp::LBA_HIGH],
+            body[stp::DEVICE],
+        ),
+        count: sector_count(body[stp::COUNT]),
+        data_length: wire::read32(body, stp::DATA_LENGTH),
     }
 }
 

@@ -10,7 +10,8 @@ ghost use mathlib.Core.Path.{_≡_};
 ghost use Prim.Native.Nat.{_+_, _*_, _≤_};
 ghost use lib.ListN.{length};
 ghost use Rattle.laws.specs.Splice.{part, splice};
-ghost use Rattle.disk.specs.Disk.{dataLength, answerTo, withStatus, identify, sectors, performs, acted, performed, Lent};
+ghost use Rattle.stp.specs.Body.{dataLength};
+ghost use Rattle.disk.specs.Disk.{answerTo, withStatus, identify, sectors, performs, acted, performed, Lent};
 
 // What a request asks: the command's code, bit 6 of FIS byte 7, the LBA, the count of sectors, and uDataLength.
 pub struct AtaCommand {
@@ -86,7 +87,7 @@ fn read(disk: &[u8], body: &mut [u8], r: AtaCommand, a: Answer)
     let at = 512 * r.lba as usize;
     let bytes = 512 * r.count as usize;
     put_status(body, r, a);
-    wire::copy_part(body, 136, disk, at, bytes);
+    wire::copy_part(body, stp::DATA, disk, at, bytes);
 }
 
 // ECh: what the disk says of itself goes to the start of bDataBuffer.
@@ -107,6 +108,6 @@ fn write(disk: &mut [u8], body: &mut [u8], r: AtaCommand, a: Answer)
 {
     let at = 512 * r.lba as usize;
     let bytes = 512 * r.count as usize;
-    wire::copy_part(disk, at, body, 136, bytes);
+    wire::copy_part(disk, at, body, stp::DATA, bytes);
     put_status(body, r, a);
 }

@@ -26,7 +26,7 @@ fn status(body: &[u8], twelve: u8, a: Answer) -> [u8; 92]
     s[4] = 0x34;
     s[6] = a.status;
     s[7] = a.error;
-    wire::copy_part(&mut s, 8, body, 20, 10);
+    wire::copy_part(&mut s, 8, body, stp::LBA_LOW, 10);
     s[16] = twelve;
     wire::write32(&mut s, 88, a.moved);
     s
@@ -36,8 +36,8 @@ pub fn put_status(body: &mut [u8], r: AtaCommand, a: Answer)
     requires { ⌜ 136 ≤ length (now body) ⌝ }
     ensures { λ _. ⌜ now (body .exit) ≡ withStatus (now (body .entry)) r a ⌝ }
 {
-    let s = status(body, byte_twelve(r.command, body[28]), a);
-    wire::copy_at(body, 44, &s);
+    let s = status(body, byte_twelve(r.command, body[stp::COUNT]), a);
+    wire::copy_at(body, stp::STATUS, &s);
 }
 
 // Words 49 (LBA supported) and 60 (sectors) of 256.
@@ -48,5 +48,5 @@ pub fn put_identify(body: &mut [u8])
     let mut words = [0u8; 512];
     wire::write16(&mut words, 98, 0x0200);
     wire::write16(&mut words, 120, 16);
-    wire::copy_at(body, 136, &words);
+    wire::copy_at(body, stp::DATA, &words);
 }

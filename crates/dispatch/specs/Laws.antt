@@ -22,7 +22,7 @@ use Rattle.state.specs.State.{State, stateWith, stateSize, stateOf, stateHolds}
 use Rattle.state.specs.Laws.{lent-tables, state-back, state-phys, state-rows}
 use Rattle.adapter.specs.Adapter.{Adapter, mediumSize}
 use Rattle.service.specs.Serve.{Store, serves, served}
-use Rattle.dispatch.specs.Request.{Request, requestOf, formOf, controlOf, bodyOf, checksCode, needAbove, Point, pointOf, point, outcome, stateNumber, bufferNumber, pointNumber, callNumber, untouched, pending, inBuffer, refusedRequest, answered, replied, answeredAt, handled, RequestCall}
+use Rattle.dispatch.specs.Request.{Request, requestOf, formOf, controlOf, bodyOf, checksCode, needAbove, Point, point, outcome, stateNumber, bufferNumber, pointNumber, callNumber, untouched, pending, inBuffer, refusedRequest, answered, replied, answeredAt, handled, RequestCall}
 
 -- ---- the body, lent as the rest of the buffer
 
@@ -136,12 +136,12 @@ lent-rows s h = rw (lent-tables s) (state-rows (stateOf s) true (sym h) refl)
 pub lent-medium : (s : List ℕ) (medium : ℕ) → medium ≡ mediumSize (stateOf s .adapter) → medium ≡ mediumSize (tablesOf (take (length s - 1) (drop 1 s)))
 lent-medium s medium e = rw (lent-tables s) e
 
-pub reply-back : (s t medium medium′ buffer buffer′ : List ℕ) → length s ≡ stateSize
-    → outcome 0 (pointOf (stateWith (record { 0 = getD s 0 0 }) (tablesOf t)) medium′) buffer′
-    ≡ answeredAt (pointOf (stateWith (record { 0 = getD s 0 0 }) (tablesOf (take (length s - 1) (drop 1 s)))) medium) (requestOf buffer)
-    → outcome 0 (pointOf (stateOf (take 1 s ++ (t ++ drop (length s - 1) (drop 1 s)))) medium′) buffer′ ≡ answeredAt (pointOf (stateOf s) medium) (requestOf buffer)
+pub reply-back : (s t : List ℕ) (store store′ : Store) (buffer buffer′ : List ℕ) → length s ≡ stateSize
+    → outcome 0 (point (stateWith (record { 0 = getD s 0 0 }) (tablesOf t)) store′) buffer′
+    ≡ answeredAt (point (stateWith (record { 0 = getD s 0 0 }) (tablesOf (take (length s - 1) (drop 1 s)))) store) (requestOf buffer)
+    → outcome 0 (point (stateOf (take 1 s ++ (t ++ drop (length s - 1) (drop 1 s)))) store′) buffer′ ≡ answeredAt (point (stateOf s) store) (requestOf buffer)
 unfolding stateOf
-reply-back s t medium medium′ buffer buffer′ e p = rw (state-back s t e) (rw (rest s 1) at p)
+reply-back s t store store′ buffer buffer′ e p = rw (state-back s t e) (rw (rest s 1) at p)
 
 -- ---- the call
 
@@ -149,27 +149,27 @@ reply-back s t medium medium′ buffer buffer′ e p = rw (state-back s t e) (rw
 pub untouched-by : (call n : ℕ) (p : Point) (buffer : List ℕ) → call ≡ n → outcome call p buffer ≡ untouched n p (requestOf buffer)
 untouched-by call n p buffer e = rw e
 
-module _ (state medium buffer : List ℕ) where
-  pub request-whole : (call : ℕ) (state′ medium′ buffer′ : List ℕ) → length state ≡ stateSize → length state′ ≡ length state
-      → outcome call (pointOf (stateOf state′) medium′) buffer′ ≡ handled (pointOf (stateOf state) medium) (requestOf buffer)
-      → RequestCall state medium buffer call state′ medium′ buffer′
-  request-whole call state′ medium′ buffer′ e l p =
+module _ (state : List ℕ) (store : Store) (buffer : List ℕ) where
+  pub request-whole : (call : ℕ) (state′ : List ℕ) (store′ : Store) (buffer′ : List ℕ) → length state ≡ stateSize → length state′ ≡ length state
+      → outcome call (point (stateOf state′) store′) buffer′ ≡ handled (point (stateOf state) store) (requestOf buffer)
+      → RequestCall state store buffer call state′ store′ buffer′
+  request-whole call state′ store′ buffer′ e l p =
       record {
         size = l;
         whole = λ _. p;
         otherCall = λ n. absurd (n e);
         otherState = λ n. absurd (n e);
-        otherMedium = λ n. absurd (n e);
+        otherStore = λ n. absurd (n e);
         otherBuffer = λ n. absurd (n e);
       }
 
-  pub request-other : (length state ≡ stateSize → ⊥) → RequestCall state medium buffer badState state medium buffer
+  pub request-other : (length state ≡ stateSize → ⊥) → RequestCall state store buffer badState state store buffer
   request-other n =
       record {
         size = refl;
         whole = λ e. absurd (n e);
         otherCall = λ _. refl;
         otherState = λ _. refl;
-        otherMedium = λ _. refl;
+        otherStore = λ _. refl;
         otherBuffer = λ _. refl;
       }

@@ -12,7 +12,7 @@ use Rattle.state.specs.State.{State, stateWith, stateSize, stateOf, stateHolds}
 use Rattle.adapter.specs.Adapter.{Adapter, mediumSize}
 use Rattle.header.specs.Form.{Form, srb, behindHeader, withCode}
 use Rattle.header.specs.Header.{controlCode, levelRefuses, accessCode}
-use Rattle.service.specs.Serve.{Store, storeOf, Served, served}
+use Rattle.service.specs.Serve.{Store, Served, served}
 
 -- ---- what is sent
 
@@ -50,9 +50,6 @@ pub record Point : Type 0 where
 
 abbrev pub point : State → Store → Point
 point s store = record { state = s; store = store }
-
-abbrev pub pointOf : State → List ℕ → Point
-pointOf s medium = point s (storeOf medium)
 
 -- what a call leaves
 pub record Outcome : Type 0 where
@@ -122,13 +119,12 @@ handled p r = cond (eqb (callNumber p r) 0) (answeredAt p r) (untouched (callNum
 
 -- ---- the call
 
--- on a state that is lent as bytes: its number, and the bytes of all three afterwards
-pub record RequestCall (state medium buffer : List ℕ) (call : ℕ) (state′ medium′ buffer′ : List ℕ) : Type 0 where
+-- on a state that is lent as bytes: its number, and the bytes of the state, what is stored beside it and the buffer afterwards
+pub record RequestCall (state : List ℕ) (store : Store) (buffer : List ℕ) (call : ℕ) (state′ : List ℕ) (store′ : Store) (buffer′ : List ℕ) : Type 0 where
   pub size : length state′ ≡ length state
-  pub whole : length state ≡ stateSize
-      → outcome call (pointOf (stateOf state′) medium′) buffer′ ≡ handled (pointOf (stateOf state) medium) (requestOf buffer)
+  pub whole : length state ≡ stateSize → outcome call (point (stateOf state′) store′) buffer′ ≡ handled (point (stateOf state) store) (requestOf buffer)
   -- another length is 107, before every other check, and nothing is touched
   pub otherCall : (length state ≡ stateSize → ⊥) → call ≡ badState
   pub otherState : (length state ≡ stateSize → ⊥) → state′ ≡ state
-  pub otherMedium : (length state ≡ stateSize → ⊥) → medium′ ≡ medium
+  pub otherStore : (length state ≡ stateSize → ⊥) → store′ ≡ store
   pub otherBuffer : (length state ≡ stateSize → ⊥) → buffer′ ≡ buffer

@@ -10,7 +10,7 @@ ghost use Rattle.header.specs.Table.{structureSize, dataSize};
 ghost use Rattle.header.specs.Form.{srb, returnCode, withCode};
 ghost use Rattle.service.specs.Serve.{storeOf, served};
 ghost use Rattle.state.specs.State.{stateWith, stateSize, stateOf, stateHolds};
-ghost use Rattle.dispatch.specs.Request.{requestOf, controlOf, bodyOf, checksCode, pointOf, outcome, stateNumber, bufferNumber, pending, inBuffer, answered, answeredAt, handled, RequestCall};
+ghost use Rattle.dispatch.specs.Request.{requestOf, controlOf, bodyOf, checksCode, point, outcome, stateNumber, bufferNumber, pending, inBuffer, answered, answeredAt, handled, RequestCall};
 
 // The body behind the header is lent to the code's own checks and effect.
 fn serve_body(tables: &mut [u8], medium: &mut [u8], buffer: &mut [u8]) -> u32
@@ -59,8 +59,8 @@ fn reply_at(level: Level, tables: &mut [u8], medium: &mut [u8], buffer: &mut [u8
     requires { ⌜ (tablesOf (now tables) .«phy_count» ≤ 32) × (tablesOf (now tables) .«row_count» ≤ 64) ⌝ }
     requires { ⌜ length (now medium) ≡ mediumSize (tablesOf (now tables)) ⌝ }
     requires { ⌜ srb .size ≤ length (now buffer) ⌝ }
-    ensures { λ _. ⌜ outcome 0 (pointOf (stateWith level (tablesOf (now (tables .exit)))) (now (medium .exit))) (now (buffer .exit))
-        ≡ answeredAt (pointOf (stateWith level (tablesOf (now (tables .entry)))) (now (medium .entry))) (requestOf (now (buffer .entry))) ⌝ }
+    ensures { λ _. ⌜ outcome 0 (point (stateWith level (tablesOf (now (tables .exit)))) (storeOf (now (medium .exit)))) (now (buffer .exit))
+        ≡ answeredAt (point (stateWith level (tablesOf (now (tables .entry)))) (storeOf (now (medium .entry)))) (requestOf (now (buffer .entry))) ⌝ }
     ensures { λ code. ⌜ code ≡ returnCode srb (now (buffer .exit)) ⌝ }
 {
     let code = check_and_serve(level, tables, medium, buffer);
@@ -73,8 +73,8 @@ pub fn reply(state: &mut [u8], medium: &mut [u8], buffer: &mut [u8]) -> u32
     requires { ⌜ stateHolds (stateOf (now state)) ≡ true ⌝ }
     requires { ⌜ length (now medium) ≡ mediumSize (stateOf (now state) .adapter) ⌝ }
     requires { ⌜ srb .size ≤ length (now buffer) ⌝ }
-    ensures { λ _. ⌜ outcome 0 (pointOf (stateOf (now (state .exit))) (now (medium .exit))) (now (buffer .exit))
-        ≡ answeredAt (pointOf (stateOf (now (state .entry))) (now (medium .entry))) (requestOf (now (buffer .entry))) ⌝ }
+    ensures { λ _. ⌜ outcome 0 (point (stateOf (now (state .exit))) (storeOf (now (medium .exit)))) (now (buffer .exit))
+        ≡ answeredAt (point (stateOf (now (state .entry))) (storeOf (now (medium .entry)))) (requestOf (now (buffer .entry))) ⌝ }
     ensures { λ code. ⌜ code ≡ returnCode srb (now (buffer .exit)) ⌝ }
 {
     let level = Level(state[0]);
@@ -116,8 +116,8 @@ fn call_number(state: &[u8], medium: usize, buffer: usize) -> u32
 
 fn handle(state: &mut [u8], medium: &mut [u8], buffer: &mut [u8]) -> u32
     requires { ⌜ length (now state) ≡ stateSize ⌝ }
-    ensures { λ call. ⌜ outcome call (pointOf (stateOf (now (state .exit))) (now (medium .exit))) (now (buffer .exit))
-        ≡ handled (pointOf (stateOf (now (state .entry))) (now (medium .entry))) (requestOf (now (buffer .entry))) ⌝ }
+    ensures { λ call. ⌜ outcome call (point (stateOf (now (state .exit))) (storeOf (now (medium .exit)))) (now (buffer .exit))
+        ≡ handled (point (stateOf (now (state .entry))) (storeOf (now (medium .entry)))) (requestOf (now (buffer .entry))) ⌝ }
 {
     let call = call_number(state, medium.len(), buffer.len());
     if call == 0 {
@@ -129,7 +129,7 @@ fn handle(state: &mut [u8], medium: &mut [u8], buffer: &mut [u8]) -> u32
 
 // Handles one request. A state of another length is not touched, nor is anything else then.
 pub fn request(state: &mut [u8], medium: &mut [u8], buffer: &mut [u8]) -> u32
-    ensures { λ call. ⌜ RequestCall (now (state .entry)) (now (medium .entry)) (now (buffer .entry)) call (now (state .exit)) (now (medium .exit)) (now (buffer .exit)) ⌝ }
+    ensures { λ call. ⌜ RequestCall (now (state .entry)) (storeOf (now (medium .entry))) (now (buffer .entry)) call (now (state .exit)) (storeOf (now (medium .exit))) (now (buffer .exit)) ⌝ }
 {
     if state.len() == state::SIZE {
         return handle(state, medium, buffer);

@@ -18,7 +18,8 @@ use Rattle.state.specs.Open.{Opened, OpenCall}
 use Rattle.adapter.specs.Adapter.{mediumSize}
 use Rattle.tables.specs.Laws.{tables-phys, tables-entity}
 use Rattle.header.specs.Form.{srb, returnCode}
-use Rattle.dispatch.specs.Request.{Request, requestOf, Point, pointOf, Outcome, outcome, stateNumber, bufferNumber, pointNumber, callNumber, untouched, answeredAt, handled}
+use Rattle.service.specs.Serve.{Store, storeOf}
+use Rattle.dispatch.specs.Request.{Request, requestOf, Point, point, Outcome, outcome, stateNumber, bufferNumber, pointNumber, callNumber, untouched, answeredAt, handled}
 use Rattle.dispatch.specs.Laws.{heard-state, heard-medium, heard-room}
 use Rattle.claims.specs.Run.{Reply, Entry, End, replyOf, step, entryOf, run}
 use Rattle.claims.specs.Moved.{Sized}
@@ -90,7 +91,7 @@ module _ (s : State) (medium buffer number call : ℕ) (n : number ≡ stateNumb
 
 module _ (s : State) (medium buffer : List ℕ) (number call : ℕ) (n : number ≡ stateNumber s (length medium)) (e : call ≡ bufferNumber srb number (length buffer)) where
   abbrev p : Point
-  p = pointOf s medium
+  p = point s (storeOf medium)
 
   numbered : callNumber p (requestOf buffer) ≡ call
   numbered = rw (← n, e) refl
@@ -123,12 +124,12 @@ sized-left p q request buffer line e = rw (rest-end request 4, append-nil) (ap (
 -- ---- a run that ends
 
 module _ (p : Point) (session lines : List ℕ) where
-  ran-none : (room : ℕ) → wholeFirst session ≡ false → ranFrom room p session lines ≡ ran 0 (p .store .medium) session lines
+  ran-none : (room : ℕ) → wholeFirst session ≡ false → ranFrom room p session lines ≡ ran 0 (p .store) session lines
   unfolding ranFrom requestsOf ends log shown withReplies linesOf
   ran-none zero h = refl
   ran-none (suc room) h = rw h refl
 
-  ran-full : ranFrom 0 p session lines ≡ ran 0 (p .store .medium) session lines
+  ran-full : ranFrom 0 p session lines ≡ ran 0 (p .store) session lines
   unfolding ranFrom requestsOf ends log shown withReplies linesOf
   ran-full = refl
 
@@ -136,7 +137,7 @@ module _ (p : Point) (session lines : List ℕ) where
 
 -- a run's bytes behind those of the requests before it
 abbrev pub behind : ℕ → List ℕ → List ℕ → Ran → Ran
-behind count session lines r = ran (count + r .count) (r .medium) (session ++ r .session) (lines ++ r .lines)
+behind count session lines r = ran (count + r .count) (r .store) (session ++ r .session) (lines ++ r .lines)
 
 -- one request more before it
 behind-behind : (n : ℕ) (session session′ lines lines′ : List ℕ) (r : Ran)
@@ -199,10 +200,10 @@ sized-lent t e h =
 
 -- the number of the state and the medium stays; a state that 107 refuses is not touched
 number-kept : (t medium request : List ℕ) → length t ≡ stateSize
-    → pointNumber (handled (pointOf (stateOf t) medium) (requestOf request) .point) ≡ pointNumber (pointOf (stateOf t) medium)
+    → pointNumber (handled (point (stateOf t) (storeOf medium)) (requestOf request) .point) ≡ pointNumber (point (stateOf t) (storeOf medium))
 unfolding stateNumber
 number-kept t medium request e =
-    let p : Point = pointOf (stateOf t) medium in
+    let p : Point = point (stateOf t) (storeOf medium) in
     let r : Request = requestOf request in
     by-bool (λ (b : Bool). stateHolds (stateOf t) ≡ b → pointNumber (handled p r .point) ≡ pointNumber p)
     (λ h. number-step p r (sized-lent t e h))
@@ -210,7 +211,7 @@ number-kept t medium request e =
     (stateHolds (stateOf t)) refl
 
 pub number-next : (t t′ medium medium′ request request′ line : List ℕ) (number : ℕ)
-    → records (pointOf (stateOf t′) medium′) request′ line ≡ afterSized (pointOf (stateOf t) medium) request
+    → records (point (stateOf t′) (storeOf medium′)) request′ line ≡ afterSized (point (stateOf t) (storeOf medium)) request
     → length t ≡ stateSize → number ≡ stateNumber (stateOf t) (length medium) → number ≡ stateNumber (stateOf t′) (length medium′)
 unfolding afterSized
 number-next t t′ medium medium′ request request′ line number p e n =
@@ -221,27 +222,27 @@ pub run-starts : (room : ℕ) (p : Point) (session lines : List ℕ)
     → ranFrom room p session lines ≡ behind 0 [] [] (ranFrom (room - 0) p session lines)
 run-starts room p session lines = rw (sub-zero, zero-add) refl
 
-module _ (r : Ran) (s : State) (medium session lines : List ℕ) (at count room : ℕ)
-    (g : r ≡ behind count (take at session) (take (8 * count) lines) (ranFrom (room - count) (pointOf s medium) (drop at session) (drop (8 * count) lines)))
+module _ (r : Ran) (s : State) (store : Store) (session lines : List ℕ) (at count room : ℕ)
+    (g : r ≡ behind count (take at session) (take (8 * count) lines) (ranFrom (room - count) (point s store) (drop at session) (drop (8 * count) lines)))
   where
     abbrev here : Point
-    here = pointOf s medium
+    here = point s store
 
-    ended : ranFrom (room - count) here (drop at session) (drop (8 * count) lines) ≡ ran 0 medium (drop at session) (drop (8 * count) lines)
-        → ran count medium session lines ≡ r
+    ended : ranFrom (room - count) here (drop at session) (drop (8 * count) lines) ≡ ran 0 store (drop at session) (drop (8 * count) lines)
+        → ran count store session lines ≡ r
     ended e =
         sym (g
         ∙ ap (behind count (take at session) (take (8 * count) lines)) e
         ∙ rw (take-append-drop at session, take-append-drop (8 * count) lines, add-zero) refl)
 
     -- no room is left
-    pub run-full : count ≤ room → room ≤ count → ran count medium session lines ≡ r
+    pub run-full : count ≤ room → room ≤ count → ran count store session lines ≡ r
     run-full h k =
         let z : room - count ≡ 0 = omega arith in
         ended (rw z (ran-full here (drop at session) (drop (8 * count) lines)))
 
     -- no whole request stands next
-    pub run-ends : (end : ℕ) → end ≡ endFrom session at → end ≡ at → ran count medium session lines ≡ r
+    pub run-ends : (end : ℕ) → end ≡ endFrom session at → end ≡ at → ran count store session lines ≡ r
     unfolding endFrom
     run-ends end e h =
         ended (ran-none here (drop at session) (drop (8 * count) lines) (room - count)
@@ -290,6 +291,6 @@ module _ (r : Ran) (s : State) (medium session lines : List ℕ) (at count room 
 -- ---- the whole run
 
 pub opened-ran : (text file medium state after : List ℕ) (call : ℕ) → OpenCall text file medium state call after → length state ≡ stateSize
-    → (session lines : List ℕ) (r : Ran) → r ≡ ranFrom (length lines / 8) (pointOf (stateOf after) medium) session lines → r ≡ sessionRun text file medium session lines
+    → (session lines : List ℕ) (r : Ran) → r ≡ ranFrom (length lines / 8) (point (stateOf after) (storeOf medium)) session lines → r ≡ sessionRun text file (storeOf medium) session lines
 unfolding sessionRun ranFrom
 opened-ran text file medium state after call o e session lines r p = rw (ap (λ (x : Opened). x .state) (o .whole e)) at p

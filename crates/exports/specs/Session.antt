@@ -9,6 +9,7 @@ use lib.ListN.{length, take, drop}
 use Rattle.laws.specs.Splice.{part}
 use Rattle.wire.specs.Number.{number, bytes}
 use Rattle.header.specs.Form.{srb, returnCode}
+use Rattle.service.specs.Serve.{Store}
 use Rattle.dispatch.specs.Request.{Request, requestOf, Point, Outcome, handled}
 use Rattle.claims.specs.Run.{Reply, Entry, End, replyOf, run, wholeRun}
 
@@ -53,24 +54,24 @@ unfoldable pub linesOf : List Entry → List ℕ
 linesOf [] = []
 linesOf (e ∷ log) = lineOf (e .exchange .reply) ++ linesOf log
 
--- the number of requests handled, and the bytes of the medium, the session and the record afterwards
+-- the number of requests handled, and what is lent beside the state, the session and the record afterwards
 pub record Ran : Type 0 where
   pub count : ℕ
-  pub medium : List ℕ
+  pub store : Store
   pub session : List ℕ
   pub lines : List ℕ
 
-abbrev pub ran : ℕ → List ℕ → List ℕ → List ℕ → Ran
-ran count medium session lines = record { count = count; medium = medium; session = session; lines = lines }
+abbrev pub ran : ℕ → Store → List ℕ → List ℕ → Ran
+ran count store session lines = record { count = count; store = store; session = session; lines = lines }
 
 -- a run's end, in a session and a record; what the record has past the requests stays
 unfoldable pub shown : End → List ℕ → List ℕ → Ran
 shown end session lines =
-    ran (length (end .log)) (end .point .store .medium) (withReplies (end .log) session) (linesOf (end .log) ++ drop (8 * length (end .log)) lines)
+    ran (length (end .log)) (end .point .store) (withReplies (end .log) session) (linesOf (end .log) ++ drop (8 * length (end .log)) lines)
 
 -- "A run is an opening, then a list of requests": those of the session, as many as the record has room for. A line is 8 bytes
-unfoldable pub sessionRun : List ℕ → List ℕ → List ℕ → List ℕ → List ℕ → Ran
-sessionRun text file medium session lines = shown (wholeRun text file medium (requestsOf (length lines / 8) session)) session lines
+unfoldable pub sessionRun : List ℕ → List ℕ → Store → List ℕ → List ℕ → Ran
+sessionRun text file store session lines = shown (wholeRun text file store (requestsOf (length lines / 8) session)) session lines
 
 -- the same from a point, with room for so many
 unfoldable pub ranFrom : ℕ → Point → List ℕ → List ℕ → Ran

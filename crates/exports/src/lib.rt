@@ -5,6 +5,7 @@ mod session;
 use session::run;
 ghost use mathlib.Core.Path.{_≡_};
 ghost use Rattle.state.specs.Open.{OpenCall};
+ghost use Rattle.service.specs.Serve.{storeOf};
 ghost use Rattle.dispatch.specs.Request.{RequestCall};
 ghost use Rattle.exports.specs.Session.{ran, sessionRun};
 
@@ -19,7 +20,7 @@ pub extern "C" fn ascheknopf_open(text: &[u8], file: &[u8], medium: &[u8], state
 // Handles one request, in place.
 #[no_mangle]
 pub extern "C" fn ascheknopf_request(state: &mut [u8], medium: &mut [u8], buffer: &mut [u8]) -> u32
-    ensures { λ call. ⌜ RequestCall (now (state .entry)) (now (medium .entry)) (now (buffer .entry)) call (now (state .exit)) (now (medium .exit)) (now (buffer .exit)) ⌝ }
+    ensures { λ call. ⌜ RequestCall (now (state .entry)) (storeOf (now (medium .entry))) (now (buffer .entry)) call (now (state .exit)) (storeOf (now (medium .exit))) (now (buffer .exit)) ⌝ }
 {
     dispatch::request(state, medium, buffer)
 }
@@ -35,7 +36,8 @@ pub extern "C" fn ascheknopf_run(
     session: &mut [u8],
     lines: &mut [u8],
 ) -> usize
-    ensures { λ r. ⌜ ran r (now (medium .exit)) (now (session .exit)) (now (lines .exit)) ≡ sessionRun (now (text .entry)) (now (file .entry)) (now (medium .entry)) (now (session .entry)) (now (lines .entry)) ⌝ }
+    ensures { λ r. ⌜ ran r (storeOf (now (medium .exit))) (now (session .exit)) (now (lines .exit))
+        ≡ sessionRun (now (text .entry)) (now (file .entry)) (storeOf (now (medium .entry))) (now (session .entry)) (now (lines .entry)) ⌝ }
 {
     let mut state = [0u8; dispatch::SIZE];
     dispatch::open(text, file, medium, &mut state);

@@ -8,7 +8,8 @@ ghost use Rattle.wire.specs.Number.{bytes};
 ghost use Rattle.adapter.specs.Adapter.{mediumSize};
 ghost use Rattle.state.specs.State.{stateSize, stateOf, stateHolds};
 ghost use Rattle.header.specs.Form.{srb};
-ghost use Rattle.dispatch.specs.Request.{requestOf, pointOf, stateNumber, answeredAt, handled};
+ghost use Rattle.service.specs.Serve.{storeOf};
+ghost use Rattle.dispatch.specs.Request.{requestOf, point, stateNumber, answeredAt, handled};
 ghost use Rattle.exports.specs.Session.{endFrom, records, afterRequest, afterSized, ran, ranFrom};
 
 // What a line of the record has where no return code was written.
@@ -47,8 +48,8 @@ fn record_reply(state: &mut [u8], medium: &mut [u8], buffer: &mut [u8], line: &m
     requires { ⌜ length (now medium) ≡ mediumSize (stateOf (now state) .adapter) ⌝ }
     requires { ⌜ srb .size ≤ length (now buffer) ⌝ }
     requires { ⌜ length (now line) ≡ 8 ⌝ }
-    ensures { λ _. ⌜ records (pointOf (stateOf (now (state .exit))) (now (medium .exit))) (now (buffer .exit)) (now (line .exit))
-        ≡ afterRequest (answeredAt (pointOf (stateOf (now (state .entry))) (now (medium .entry))) (requestOf (now (buffer .entry)))) ⌝ }
+    ensures { λ _. ⌜ records (point (stateOf (now (state .exit))) (storeOf (now (medium .exit)))) (now (buffer .exit)) (now (line .exit))
+        ≡ afterRequest (answeredAt (point (stateOf (now (state .entry))) (storeOf (now (medium .entry)))) (requestOf (now (buffer .entry)))) ⌝ }
 {
     let code = dispatch::reply(state, medium, buffer);
     write_line(line, 0, code);
@@ -65,8 +66,8 @@ fn record_request(
     requires { ⌜ length (now state) ≡ stateSize ⌝ }
     requires { ⌜ number ≡ stateNumber (stateOf (now state)) (length (now medium)) ⌝ }
     requires { ⌜ length (now line) ≡ 8 ⌝ }
-    ensures { λ _. ⌜ records (pointOf (stateOf (now (state .exit))) (now (medium .exit))) (now (buffer .exit)) (now (line .exit))
-        ≡ afterRequest (handled (pointOf (stateOf (now (state .entry))) (now (medium .entry))) (requestOf (now (buffer .entry)))) ⌝ }
+    ensures { λ _. ⌜ records (point (stateOf (now (state .exit))) (storeOf (now (medium .exit)))) (now (buffer .exit)) (now (line .exit))
+        ≡ afterRequest (handled (point (stateOf (now (state .entry))) (storeOf (now (medium .entry)))) (requestOf (now (buffer .entry)))) ⌝ }
 {
     let call = dispatch::buffer_number(number, buffer.len());
     if call == 0 {
@@ -87,8 +88,8 @@ fn record_sized(
     requires { ⌜ number ≡ stateNumber (stateOf (now state)) (length (now medium)) ⌝ }
     requires { ⌜ 4 ≤ length (now request) ⌝ }
     requires { ⌜ length (now line) ≡ 8 ⌝ }
-    ensures { λ _. ⌜ records (pointOf (stateOf (now (state .exit))) (now (medium .exit))) (now (request .exit)) (now (line .exit))
-        ≡ afterSized (pointOf (stateOf (now (state .entry))) (now (medium .entry))) (now (request .entry)) ⌝ }
+    ensures { λ _. ⌜ records (point (stateOf (now (state .exit))) (storeOf (now (medium .exit)))) (now (request .exit)) (now (line .exit))
+        ≡ afterSized (point (stateOf (now (state .entry))) (storeOf (now (medium .entry)))) (now (request .entry)) ⌝ }
 {
     record_request(number, state, medium, &mut request[4..], line)
 }
@@ -97,8 +98,8 @@ fn record_sized(
 // are tested once, since no request breaks them.
 pub fn run(state: &mut [u8], medium: &mut [u8], session: &mut [u8], lines: &mut [u8]) -> usize
     requires { ⌜ length (now state) ≡ stateSize ⌝ }
-    ensures { λ r. ⌜ ran r (now (medium .exit)) (now (session .exit)) (now (lines .exit))
-        ≡ ranFrom (length (now (lines .entry)) / 8) (pointOf (stateOf (now (state .entry))) (now (medium .entry))) (now (session .entry)) (now (lines .entry)) ⌝ }
+    ensures { λ r. ⌜ ran r (storeOf (now (medium .exit))) (now (session .exit)) (now (lines .exit))
+        ≡ ranFrom (length (now (lines .entry)) / 8) (point (stateOf (now (state .entry))) (storeOf (now (medium .entry)))) (now (session .entry)) (now (lines .entry)) ⌝ }
 {
     let number = dispatch::state_number(state, medium.len());
     let mut at = 0;

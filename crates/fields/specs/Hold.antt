@@ -9,12 +9,12 @@ use Rattle.phy.specs.declared.Phy.{Phy}
 use Rattle.phy.specs.declared.PhyIdentifier.{PhyIdentifier}
 use Rattle.phy.specs.Entity.{identifierOf, classOf, portOf, hardwareMinimum, hardwareMaximum, programmedMinimum, programmedMaximum}
 use Rattle.phy.specs.Change.{cleared, raised, negotiatedAs, configured}
-use Rattle.fields.specs.Rules.{isRate, identifyHolds, rangeHolds, ratesHold, emptyHolds, deviceHolds, attachedHold, signatureHold, fieldsHold}
+use Rattle.fields.specs.Rules.{isRate, identifyHolds, rangeHolds, ratesHold, emptyHolds, deviceHolds, attachedHold, heldSignatureHolds, fieldsHold}
 use Rattle.phy.specs.Kept.{Kept, Settings}
 use Rattle.phy.specs.Changed.{kept-configured, class-configured, minimum-configured, maximum-configured, kept-cleared, kept-raised, kept-negotiated, settings-cleared, settings-raised, settings-negotiated}
 
 pub fields-kept : (a b : Phy) (n : PhyIdentifier) (p : ℕ) → Kept a b → Settings a b → fieldsHold b n p ≡ fieldsHold a n p
-unfolding fieldsHold identifyHolds ratesHold rangeHolds attachedHold emptyHolds deviceHolds signatureHold
+unfolding fieldsHold identifyHolds ratesHold rangeHolds attachedHold emptyHolds deviceHolds heldSignatureHolds
 fields-kept a b n p k s = cc
 
 pub range-kept : (a b : Phy) (minimum maximum : ℕ) → Kept a b → rangeHolds b minimum maximum ≡ rangeHolds a minimum maximum
@@ -59,10 +59,10 @@ rates-by a b k r h =
 
 fields-by : (a b : Phy) (n : PhyIdentifier) (p : ℕ) → Kept a b → leb (classOf b) 3 ≡ true
     → rangeHolds a (programmedMinimum b) (programmedMaximum b) ≡ true → fieldsHold a n p ≡ true → fieldsHold b n p ≡ true
-unfolding fieldsHold attachedHold emptyHolds deviceHolds signatureHold
+unfolding fieldsHold attachedHold emptyHolds deviceHolds heldSignatureHolds
 fields-by a b n p k c r f =
     cc
-    (exchanged-first (identifyHolds a n p && ratesHold a) (identifyHolds b n p && ratesHold b) (attachedHold a) (leb (a .held) 1) (leb (a .fixed) 1) (signatureHold a)
+    (exchanged-first (identifyHolds a n p && ratesHold a) (identifyHolds b n p && ratesHold b) (attachedHold a) (leb (a .held) 1) (leb (a .fixed) 1) (heldSignatureHolds a)
     (λ h. both (identifyHolds b n p) (ratesHold b) (identify-by a b n p k c (both-left (identifyHolds a n p) (ratesHold a) h))
     (rates-by a b k r (both-right (identifyHolds a n p) (ratesHold a) h)))
     f)

@@ -11,6 +11,7 @@ use borrow.Author.Tests.{eqb-true}
 use Rattle.laws.specs.All.{allTo}
 use Rattle.laws.specs.Choice.{by-bool, both-left, both-right}
 use Rattle.laws.specs.Splice.{part, part-all}
+use Rattle.codes.specs.Codes.{linkRate15, linkRate30, endDevice, edgeExpander, fanoutExpander}
 use Rattle.wire.specs.Number.{number}
 use Rattle.wire.specs.Same.{sameBytes, allZero}
 use Rattle.phy.specs.declared.Phy.{Phy}
@@ -24,7 +25,7 @@ identifyHolds phy n p = eqb (identifierOf phy .0) (n .0) && leb (classOf phy) 3 
 
 -- "Rate codes are 8 (1.5 Gb/s) and 9 (3.0)"
 unfoldable pub isRate : ℕ → Bool
-isRate code = eqb code 8 || eqb code 9
+isRate code = eqb code linkRate15 || eqb code linkRate30
 
 -- two rate codes, in "hardware minimum ≤ programmed minimum ≤ programmed maximum ≤ hardware maximum"
 unfoldable pub inRange : ℕ → ℕ → ℕ → ℕ → Bool
@@ -46,7 +47,7 @@ emptyHolds phy = allZero (attachedOf phy) && allZero (phy .signature) && eqb (ph
 -- "10h end device, 20h edge, 30h fanout expander"; "otherwise lowest ≤ highest, each 8 or 9"
 unfoldable pub deviceHolds : Phy → Bool
 deviceHolds phy =
-    (eqb (attachedType phy) 0x10 || eqb (attachedType phy) 0x20 || eqb (attachedType phy) 0x30)
+    (eqb (attachedType phy) endDevice || eqb (attachedType phy) edgeExpander || eqb (attachedType phy) fanoutExpander)
     && isRate (phy .lowest)
     && isRate (phy .highest)
     && leb (phy .lowest) (phy .highest)
@@ -55,13 +56,13 @@ unfoldable pub attachedHold : Phy → Bool
 attachedHold phy = cond (noDevice phy) (emptyHolds phy) (deviceHolds phy)
 
 -- "only it may hold a signature, and bytes 80–99 are 0 if it holds none"
-unfoldable pub signatureHold : Phy → Bool
-signatureHold phy = cond (eqb (phy .held) 1) (isSata phy) (allZero (phy .signature))
+unfoldable pub heldSignatureHolds : Phy → Bool
+heldSignatureHolds phy = cond (eqb (phy .held) 1) (isSata phy) (allZero (phy .signature))
 
 -- the field rules of phy n among p, but for the negotiated rate's; "signature held (0/1)", "fixed (0/1)"
 unfoldable pub fieldsHold : Phy → PhyIdentifier → ℕ → Bool
 fieldsHold phy n p =
-    identifyHolds phy n p && ratesHold phy && attachedHold phy && leb (phy .held) 1 && leb (phy .fixed) 1 && signatureHold phy
+    identifyHolds phy n p && ratesHold phy && attachedHold phy && leb (phy .held) 1 && leb (phy .fixed) 1 && heldSignatureHolds phy
 
 -- "zero past p": every byte and every counter is 0
 unfoldable pub phyZero : Phy → Bool

@@ -8,15 +8,16 @@ use phy::MINIMUM;
 use phy::PORT;
 use phy::Phy;
 use phy::PhyIdentifier;
+use phy::PortIdentifier;
 ghost use mathlib.Core.Path.{_≡_};
 ghost use Rattle.wire.specs.Same.{allZero};
-ghost use Rattle.fields.specs.Rules.{isRate, inRange, identifyHolds, rangeHolds, ratesHold, emptyHolds, deviceHolds, attachedHold, signatureHold, fieldsHold};
+ghost use Rattle.fields.specs.Rules.{isRate, inRange, identifyHolds, rangeHolds, ratesHold, emptyHolds, deviceHolds, attachedHold, heldSignatureHolds, fieldsHold};
 
 // A rate code: 1.5 or 3.0 Gb/s.
 pub fn is_rate(code: u8) -> bool
     ensures { λ r. ⌜ r ≡ isRate code ⌝ }
 {
-    (code == 8) | (code == 9)
+    (code == codes::LINK_RATE_1_5) | (code == codes::LINK_RATE_3_0)
 }
 
 fn in_range(least: u8, minimum: u8, maximum: u8, most: u8) -> bool
@@ -41,7 +42,9 @@ fn identify_holds(phy: Phy, n: PhyIdentifier, p: u8) -> bool
     ensures { λ r. ⌜ r ≡ identifyHolds phy n p ⌝ }
 {
     let e = phy.entity;
-    (e[IDENTIFIER] == n.0) & (e[CLASS] <= 3) & (e[PORT] < p)
+    let own = PhyIdentifier(e[IDENTIFIER]);
+    let port = PortIdentifier(e[PORT]);
+    (own.0 == n.0) & (e[CLASS] <= 3) & (port.0 < p)
 }
 
 fn rates_hold(phy: Phy) -> bool
@@ -78,7 +81,9 @@ fn device_holds(phy: Phy) -> bool
 {
     let e = phy.entity;
     let device = e[ATTACHED];
-    ((device == 0x10) | (device == 0x20) | (device == 0x30))
+    ((device == codes::END_DEVICE)
+        | (device == codes::EDGE_EXPANDER)
+        | (device == codes::FANOUT_EXPANDER))
         & is_rate(phy.lowest)
         & is_rate(phy.highest)
         & (phy.lowest <= phy.highest)
@@ -94,7 +99,7 @@ fn attached_holds(phy: Phy) -> bool
 }
 
 fn held_signature_holds(phy: Phy) -> bool
-    ensures { λ r. ⌜ r ≡ signatureHold phy ⌝ }
+    ensures { λ r. ⌜ r ≡ heldSignatureHolds phy ⌝ }
 {
     if phy.held == 1 {
         return phy.is_sata();

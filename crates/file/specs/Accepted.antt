@@ -1,11 +1,11 @@
 -- A file whose file part gives 0 (the negotiated rates and the rows are judged after it): what was read passes the rules on
 -- counts and fields, and is zero past p and a. Laws for the layers above. Assumes nothing.
-use mathlib.Core.Path.{_≡_, _∙_, ap}
+use mathlib.Core.Path.{_≡_, refl, _∙_, ap}
 use mathlib.Core.Bool.{true, _&&_}
 use mathlib.Core.List.{List}
 use Prim.Native.Nat.{ℕ, _+_, _-_, _<_, _≤_}
 use native.Mathlib.Omega.{arith}
-use lib.Dec.{ltb, eqb}
+use lib.Dec.{leb, eqb}
 use lib.ListN.{length, getD}
 use borrow.Author.Tests.{eqb-true}
 use Rattle.laws.specs.All.{all-by}
@@ -18,7 +18,8 @@ use Rattle.rows.specs.Row.{noRow, zeroRow, zero-by}
 use Rattle.layout.specs.Layout.{phyCount, rowCount, blocks, fileLength}
 use Rattle.layout.specs.Unnamed.{unnamedZero}
 use Rattle.adapter.specs.Adapter.{phyIn, countsHold, fieldsAll, zeroPast}
-use Rattle.file.specs.File.{FileRead, filePhy, fileRow, adapterOf, fileRead, countsRead, lengthRead, fieldsRead}
+use Rattle.file.specs.File.{FileRead, filePhy, fileRow, adapterOf, fileRead}
+use Rattle.file.specs.Steps.{fieldsRead, blocksRead, lengthRead, countsRead, firstRead, first-call, first-adapter}
 
 -- what is known of a file that passed
 pub record Accepted (file : List ℕ) : Type 0 where
@@ -31,18 +32,18 @@ Fine : FileRead → Type 0
 Fine r = r .call ≡ 0
 
 pub accepted : (file : List ℕ) → fileRead file .call ≡ 0 → Accepted file
-unfolding fileRead countsRead lengthRead fieldsRead Fine
+unfolding firstRead countsRead lengthRead blocksRead fieldsRead Fine
 accepted file h =
     let p : ℕ = phyCount file in
     let a : ℕ = rowCount file in
-    let long = came-else Fine (ltb (length file) 512) (λ e. omega arith) h in
+    let long = came-then Fine (leb 512 (length file)) (λ e. omega arith) (first-call file h) in
     let first = came-then Fine (sound (blockAt file 0) 0) (λ e. omega arith) (long .1) in
     let counts = came-then Fine (countsHold p a) (λ e. omega arith) (first .1) in
     let size = came-then Fine (eqb (fileLength p a) (length file)) (λ e. omega arith) (counts .1) in
     let blocks = came-then Fine (soundTo file (blocks p a)) (λ e. omega arith) (size .1) in
     let rules = came-then Fine (unnamedZero file p a && fieldsAll (adapterOf file p a)) (λ e. omega arith) (blocks .1) in
     record {
-      read = rw (long .0, first .0, counts .0, size .0, blocks .0, rules .0);
+      read = first-adapter file ∙ rw (long .0, first .0, counts .0, size .0, blocks .0, rules .0) refl;
       counts = counts .0;
       size = eqb-true (fileLength p a) (length file) (size .0);
       fields = both-right (unnamedZero file p a) (fieldsAll (adapterOf file p a)) (rules .0);

@@ -1,10 +1,11 @@
 -- The opening's file part (document 01, "Adapter file"): what the file holds, and the checks in their order up to the fields.
 -- The negotiated rates, which the link rule gives, and the rows are tested after it. Assumes nothing.
-use mathlib.Core.Bool.{Bool, _&&_, cond}
-use mathlib.Core.List.{List}
+use mathlib.Core.Bool.{_&&_, cond}
+use mathlib.Core.List.{List, [], _∷_}
 use Prim.Native.Nat.{ℕ}
-use lib.Dec.{ltb, eqb}
+use lib.Dec.{leb, eqb}
 use lib.ListN.{length}
+use Rattle.laws.specs.Checks.{Check, check, firstFailing}
 use Rattle.laws.specs.Fill.{padded}
 use Rattle.laws.specs.Splice.{part}
 use Rattle.codes.specs.Codes.{badFileLength, blockCheck, badField}
@@ -47,27 +48,22 @@ adapterOf file p a =
 abbrev pub refusedFile : ℕ → FileRead
 refusedFile call = reads call zeroAdapter
 
--- the adapter, or 104 where it breaks a rule: "count or field"
-abbrev pub judged : Bool → Adapter → FileRead
-judged ok ad = cond ok (reads 0 ad) (refusedFile badField)
+-- the adapter where every check holds; else the number of the first that fails
+unfoldable pub readBy : List Check → Adapter → FileRead
+readBy checks ad = cond (eqb (firstFailing checks) 0) (reads 0 ad) (refusedFile (firstFailing checks))
 
--- "Opening checks, in order: .. file under 512 bytes; block 0's check; p and a; file length; other checks, lowest block
--- first; fields". Each definition below is what is left to do from one check on, the last checks first.
--- "other checks" and "fields", with which the unnamed bytes are tested
-unfoldable pub fieldsRead : List ℕ → ℕ → ℕ → FileRead
-fieldsRead file p a =
-    cond (soundTo file (blocks p a)) (judged (unnamedZero file p a && fieldsAll (adapterOf file p a)) (adapterOf file p a)) (refusedFile blockCheck)
+-- "Opening checks, in order: .. file under 512 bytes; block 0's check; p and a; file length ..; other checks, lowest block first; fields",
+-- with which the unnamed bytes are tested
+abbrev pub fileChecks : List ℕ → ℕ → ℕ → List Check
+fileChecks file p a =
+    check (leb 512 (length file)) badFileLength
+    ∷ check (sound (blockAt file 0) 0) blockCheck
+    ∷ check (countsHold p a) badField
+    ∷ check (eqb (fileLength p a) (length file)) badFileLength
+    ∷ check (soundTo file (blocks p a)) blockCheck
+    ∷ check (unnamedZero file p a && fieldsAll (adapterOf file p a)) badField
+    ∷ []
 
--- "file length", and what follows it
-unfoldable pub lengthRead : List ℕ → ℕ → ℕ → FileRead
-lengthRead file p a = cond (eqb (fileLength p a) (length file)) (fieldsRead file p a) (refusedFile badFileLength)
-
--- "p and a", and what follows them
-unfoldable pub countsRead : List ℕ → ℕ → ℕ → FileRead
-countsRead file p a = cond (countsHold p a) (lengthRead file p a) (refusedFile badField)
-
--- "file under 512 bytes; block 0's check", and what follows them: all of it
+-- all of it, with the counts that block 0 gives
 unfoldable pub fileRead : List ℕ → FileRead
-fileRead file =
-    cond (ltb (length file) 512) (refusedFile badFileLength)
-    (cond (sound (blockAt file 0) 0) (countsRead file (phyCount file) (rowCount file)) (refusedFile blockCheck))
+fileRead file = readBy (fileChecks file (phyCount file) (rowCount file)) (adapterOf file (phyCount file) (rowCount file))

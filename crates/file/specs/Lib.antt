@@ -1,4 +1,5 @@
 pub mod File
+pub mod Steps
 pub mod Parse
 pub mod Laws
 pub mod Accepted

@@ -9,7 +9,8 @@ ghost use Rattle.layout.specs.Layout.{blocks, fileLength};
 ghost use Rattle.layout.specs.Unnamed.{unnamedZero};
 ghost use Rattle.adapter.specs.Adapter.{fieldsAll};
 ghost use Rattle.tables.specs.Tables.{tablesSize, tablesOf};
-ghost use Rattle.file.specs.File.{adapterOf, reads, refusedFile, judged, fieldsRead, lengthRead, countsRead, fileRead};
+ghost use Rattle.file.specs.File.{reads, refusedFile, fileRead};
+ghost use Rattle.file.specs.Steps.{settledAs, fieldsRead, blocksRead, lengthRead, countsRead, firstRead};
 
 fn refuse(tables: &mut [u8], call: u32) -> u32
     requires { ⌜ length (now tables) ≡ tablesSize ⌝ }
@@ -20,9 +21,9 @@ fn refuse(tables: &mut [u8], call: u32) -> u32
 }
 
 // The tables, or the number of a field where they break a rule.
-fn judge(tables: &mut [u8], ok: bool) -> u32
+fn settle(tables: &mut [u8], ok: bool) -> u32
     requires { ⌜ length (now tables) ≡ tablesSize ⌝ }
-    ensures { λ r. ⌜ reads r (tablesOf (now (tables .exit))) ≡ judged ok (tablesOf (now (tables .entry))) ⌝ }
+    ensures { λ r. ⌜ reads r (tablesOf (now (tables .exit))) ≡ settledAs ok (tablesOf (now (tables .entry))) ⌝ }
 {
     if ok {
         return 0;
@@ -44,11 +45,11 @@ fn fields_right(tables: &[u8], file: &[u8], p: usize, a: usize) -> bool
 fn read_fields(tables: &mut [u8], file: &[u8], p: u8, a: u8) -> u32
     requires { ⌜ (p ≤ 32) × (a ≤ 64) × (length (now file) ≡ fileLength p a) ⌝ }
     requires { ⌜ length (now tables) ≡ tablesSize ⌝ }
-    ensures { λ r. ⌜ reads r (tablesOf (now (tables .exit))) ≡ judged (unnamedZero (now (file .entry)) p a && fieldsAll (adapterOf (now (file .entry)) p a)) (adapterOf (now (file .entry)) p a) ⌝ }
+    ensures { λ r. ⌜ reads r (tablesOf (now (tables .exit))) ≡ fieldsRead (now (file .entry)) p a ⌝ }
 {
     parse(tables, file, p, a);
     let ok = fields_right(tables, file, p as usize, a as usize);
-    judge(tables, ok)
+    settle(tables, ok)
 }
 
 // Every block has its check.
@@ -63,7 +64,7 @@ fn blocks_sound(file: &[u8], p: usize, a: usize) -> bool
 fn read_blocks(tables: &mut [u8], file: &[u8], p: u8, a: u8) -> u32
     requires { ⌜ (p ≤ 32) × (a ≤ 64) × (length (now file) ≡ fileLength p a) ⌝ }
     requires { ⌜ length (now tables) ≡ tablesSize ⌝ }
-    ensures { λ r. ⌜ reads r (tablesOf (now (tables .exit))) ≡ fieldsRead (now (file .entry)) p a ⌝ }
+    ensures { λ r. ⌜ reads r (tablesOf (now (tables .exit))) ≡ blocksRead (now (file .entry)) p a ⌝ }
 {
     if blocks_sound(file, p as usize, a as usize) {
         return read_fields(tables, file, p, a);
@@ -101,10 +102,9 @@ fn read_counts(tables: &mut [u8], file: &[u8], p: u8, a: u8) -> u32
     refuse(tables, codes::BAD_FIELD)
 }
 
-// What a file holds, left in the tables, and 0; or the number of what is wrong with it.
-pub fn read_file(tables: &mut [u8], file: &[u8]) -> u32
+fn read_first(tables: &mut [u8], file: &[u8]) -> u32
     requires { ⌜ length (now tables) ≡ tablesSize ⌝ }
-    ensures { λ r. ⌜ reads r (tablesOf (now (tables .exit))) ≡ fileRead (now (file .entry)) ⌝ }
+    ensures { λ r. ⌜ reads r (tablesOf (now (tables .exit))) ≡ firstRead (now (file .entry)) ⌝ }
 {
     if file.len() < 512 {
         return refuse(tables, codes::BAD_FILE_LENGTH);
@@ -113,4 +113,12 @@ pub fn read_file(tables: &mut [u8], file: &[u8]) -> u32
         return read_counts(tables, file, file[0], file[1]);
     }
     refuse(tables, codes::BLOCK_CHECK)
+}
+
+// What a file holds, left in the tables, and 0; or the number of the first check that it fails.
+pub fn read_file(tables: &mut [u8], file: &[u8]) -> u32
+    requires { ⌜ length (now tables) ≡ tablesSize ⌝ }
+    ensures { λ r. ⌜ reads r (tablesOf (now (tables .exit))) ≡ fileRead (now (file .entry)) ⌝ }
+{
+    read_first(tables, file)
 }

@@ -11,7 +11,7 @@ use Rattle.wire.specs.Number.{number}
 use Rattle.wire.specs.Same.{sameBytes}
 use Rattle.level.specs.declared.Level.{Level}
 use Rattle.header.specs.Form.{srb, behindHeader}
-use Rattle.header.specs.Table.{structureSize, dataSize, signedAll, csmiAll, csmiSas, need}
+use Rattle.header.specs.Table.{known, structureSize, dataSize, signedAll, csmiAll, csmiSas, need}
 
 -- ---- its fields
 
@@ -49,10 +49,11 @@ lengthHolds code n body = leb (structureSize code + dataSize code body) n && leb
 -- "code known; signature ..; Length ..": the return code of the first that fails, or 0
 unfoldable pub codeChecked : ℕ → List ℕ → ℕ
 codeChecked code buffer =
-    cond (eqb (structureSize code) 0) badControlCode
+    cond (known code)
     (cond (signatureHolds code buffer)
     (cond (lengthHolds code (lengthField buffer) (srbBody buffer)) success invalidParameter)
     badControlCode)
+    badControlCode
 
 -- "HeaderLength 28", and then those
 unfoldable pub headerCode : List ℕ → ℕ

@@ -9,13 +9,13 @@ use lib.Dec.{eqb, leb, ltb}
 use lib.ListN.{length, take, drop, length-append}
 use lib.Seq.{length-take-le, drop-at}
 use borrow.Author.Tests.{lt-leb, le-leb, leb-true, le-ltb, ltb-false, eqb-true}
-use Rattle.laws.specs.Choice.{by-bool, both-left, both-right, came-then, came-else, either}
+use Rattle.laws.specs.Choice.{by-bool, both-left, both-right, came-then, either}
 use Rattle.laws.specs.Splice.{part, part-splice, drop-splice, rest}
 use Rattle.codes.specs.Codes.{stpPassthru, success, writeAttempted}
 use Rattle.wire.specs.Number.{bytes, length-bytes, number-bytes}
 use Rattle.level.specs.declared.Level.{Level}
 use Rattle.header.specs.Form.{Form, srb, behindHeader, returnCode, withCode}
-use Rattle.header.specs.Table.{structureSize, dataSize, need}
+use Rattle.header.specs.Table.{known, structureSize, dataSize, need}
 use Rattle.header.specs.Header.{headerLength, controlCode, lengthField, srbBody, signatureHolds, lengthHolds, codeChecked, headerCode, above, levelRefuses, accessCode}
 
 -- ---- a header of any form, with the return code inside it
@@ -102,7 +102,7 @@ pub header-room : (buffer : List ℕ) → headerCode buffer ≡ 0
 unfolding headerCode codeChecked Passes
 header-room buffer h =
     let a = came-then Passes (eqb (headerLength buffer) 28) (λ e. omega arith) h in
-    let b = came-else Passes (eqb (structureSize (controlCode buffer)) 0) (λ e. omega arith) (a .1) in
+    let b = came-then Passes (known (controlCode buffer)) (λ e. omega arith) (a .1) in
     let c = came-then Passes (signatureHolds (controlCode buffer) buffer) (λ e. omega arith) (b .1) in
     let d = came-then Passes (lengthHolds (controlCode buffer) (lengthField buffer) (srbBody buffer)) (λ e. omega arith) (c .1) in
     length-room (controlCode buffer) (lengthField buffer) (srbBody buffer) (d .0)
@@ -131,9 +131,9 @@ unfolding accessCode headerCode codeChecked
 access-small level buffer =
     either Small (eqb (headerCode buffer) success) (either Small (above level buffer) (omega arith) (omega arith))
     (either Small (eqb (headerLength buffer) (srb .size))
-    (either Small (eqb (structureSize (controlCode buffer)) 0) (omega arith)
+    (either Small (known (controlCode buffer))
     (either Small (signatureHolds (controlCode buffer) buffer)
-    (either Small (lengthHolds (controlCode buffer) (lengthField buffer) (srbBody buffer)) (omega arith) (omega arith)) (omega arith)))
+    (either Small (lengthHolds (controlCode buffer) (lengthField buffer) (srbBody buffer)) (omega arith) (omega arith)) (omega arith)) (omega arith))
     (omega arith))
   where
     Small : ℕ → Type 0

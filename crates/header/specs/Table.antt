@@ -1,6 +1,7 @@
--- What each control code asks of a request: the size of its structure, its signature, its data and its need (document 01, "Level"
--- and "Request"). A new code is a new line in `structureSize`, and in the others where it is not as the rest. Assumes nothing.
-use mathlib.Core.Bool.{Bool, cond}
+-- What each control code asks of a request: whether it is known, the size of its structure, its signature, its data and its need (document
+-- 01, "Level" and "Request"). A new code is a new line in `known`, `structureSize` and `need`, and in the others where it is not as the
+-- rest. Assumes nothing.
+use mathlib.Core.Bool.{Bool, cond, _||_}
 use mathlib.Core.List.{List, [], _∷_, _++_}
 use Prim.Native.Nat.{ℕ}
 use lib.Dec.{eqb}
@@ -9,16 +10,28 @@ use Rattle.codes.specs.Codes.{getDriverInfo, getPhyInfo, setPhyInfo, getLinkErr
 use Rattle.level.specs.declared.Level.{Level}
 use Rattle.level.specs.Text.{restricted, full}
 use Rattle.level.specs.Need.{needOf}
-use Rattle.disk.specs.Disk.{command, dataLength}
+use Rattle.stp.specs.Body.{command, dataLength, dataPlace}
 
--- "the structure's size without header", of 25 "without bDataBuffer"; 0 of a code that is unknown
+-- "Control codes served: 1 .., 20 .., 21 .., 22 .., 25 .., 26 .., 27 .., 28 .. Every other code is unknown for now"
+unfoldable pub known : ℕ → Bool
+known control =
+    eqb control getDriverInfo
+    || eqb control getPhyInfo
+    || eqb control setPhyInfo
+    || eqb control getLinkErrors
+    || eqb control stpPassthru
+    || eqb control getSataSignature
+    || eqb control getScsiAddress
+    || eqb control getDeviceAddress
+
+-- "the structure's size without header", of 25 "without bDataBuffer"
 unfoldable pub structureSize : ℕ → ℕ
 structureSize control =
     cond (eqb control getDriverInfo) 174
     (cond (eqb control getPhyInfo) 2052
     (cond (eqb control setPhyInfo) 8
     (cond (eqb control getLinkErrors) 20
-    (cond (eqb control stpPassthru) 136
+    (cond (eqb control stpPassthru) dataPlace
     (cond (eqb control getSataSignature) 24
     (cond (eqb control getScsiAddress) 20
     (cond (eqb control getDeviceAddress) 20
@@ -40,6 +53,15 @@ unfoldable pub signedAll : ℕ → Bool
 signedAll control = eqb control getDriverInfo
 
 -- "codes 1, 20, 22, 26, 27, 28 Restricted; 21 Full. .. Code 25 takes the need of each of the 256 command codes, byte 2 of the command
--- FIS"
+-- FIS". A code that no line names needs Full
 unfoldable pub need : ℕ → List ℕ → Level
-need control body = cond (eqb control setPhyInfo) full (cond (eqb control stpPassthru) (needOf (command body)) restricted)
+need control body =
+    cond (eqb control getDriverInfo) restricted
+    (cond (eqb control getPhyInfo) restricted
+    (cond (eqb control setPhyInfo) full
+    (cond (eqb control getLinkErrors) restricted
+    (cond (eqb control stpPassthru) (needOf (command body))
+    (cond (eqb control getSataSignature) restricted
+    (cond (eqb control getScsiAddress) restricted
+    (cond (eqb control getDeviceAddress) restricted
+    full)))))))

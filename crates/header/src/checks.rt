@@ -1,12 +1,13 @@
 // The checks on a header, in document 01's order.
 use crate::table::data_size;
+use crate::table::is_known;
 use crate::table::need;
 use crate::table::signed_all;
 use crate::table::structure_size;
 use level::Level;
 ghost use mathlib.Core.Path.{_≡_};
 ghost use Prim.Native.Nat.{_+_, _≤_};
-ghost use lib.Dec.{eqb, leb};
+ghost use lib.Dec.{leb};
 ghost use lib.ListN.{length};
 ghost use Rattle.header.specs.Form.{srb};
 ghost use Rattle.header.specs.Table.{structureSize, dataSize};
@@ -76,24 +77,18 @@ fn body_length_holds(control: u32, buffer: &[u8]) -> bool
     length_holds(control, wire::read32(buffer, 24), &buffer[SIZE..])
 }
 
-fn is_unknown(control: u32) -> bool
-    ensures { λ r. ⌜ r ≡ eqb (structureSize control) 0 ⌝ }
-{
-    structure_size(control) == 0
-}
-
 fn check_code(control: u32, buffer: &[u8]) -> u32
     requires { ⌜ srb .size ≤ length (now buffer) ⌝ }
     ensures { λ r. ⌜ r ≡ codeChecked control (now (buffer .entry)) ⌝ }
 {
-    if is_unknown(control) {
-        return codes::BAD_CONTROL_CODE;
-    }
-    if signature_holds(control, buffer) {
-        if body_length_holds(control, buffer) {
-            return codes::SUCCESS;
+    if is_known(control) {
+        if signature_holds(control, buffer) {
+            if body_length_holds(control, buffer) {
+                return codes::SUCCESS;
+            }
+            return codes::INVALID_PARAMETER;
         }
-        return codes::INVALID_PARAMETER;
+        return codes::BAD_CONTROL_CODE;
     }
     codes::BAD_CONTROL_CODE
 }

@@ -3,9 +3,23 @@ use level::Level;
 ghost use mathlib.Core.Path.{_≡_};
 ghost use Prim.Native.Nat.{_≤_};
 ghost use lib.ListN.{length};
-ghost use Rattle.header.specs.Table.{structureSize, dataSize, signedAll, need};
+ghost use Rattle.header.specs.Table.{known, structureSize, dataSize, signedAll, need};
 
-// The size of a code's structure without the header, and 0 of a code that is unknown.
+// The control code is served.
+pub fn is_known(control: u32) -> bool
+    ensures { λ r. ⌜ r ≡ known control ⌝ }
+{
+    (control == codes::GET_DRIVER_INFO)
+        | (control == codes::GET_PHY_INFO)
+        | (control == codes::SET_PHY_INFO)
+        | (control == codes::GET_LINK_ERRORS)
+        | (control == codes::STP_PASSTHRU)
+        | (control == codes::GET_SATA_SIGNATURE)
+        | (control == codes::GET_SCSI_ADDRESS)
+        | (control == codes::GET_DEVICE_ADDRESS)
+}
+
+// The size of a code's structure without the header, and 0 of a code that has none.
 pub fn structure_size(control: u32) -> u32
     ensures { λ r. ⌜ r ≡ structureSize control ⌝ }
 {
@@ -42,7 +56,7 @@ pub fn data_size(control: u32, body: &[u8]) -> u32
     ensures { λ r. ⌜ r ≡ dataSize control (now (body .entry)) ⌝ }
 {
     if control == codes::STP_PASSTHRU {
-        return wire::read32(body, 40);
+        return wire::read32(body, stp::DATA_LENGTH);
     }
     0
 }
@@ -54,16 +68,34 @@ pub fn signed_all(control: u32) -> bool
     control == codes::GET_DRIVER_INFO
 }
 
-// The lowest level that may send this.
+// The lowest level that may send this. A code that no line names needs Full.
 pub fn need(control: u32, body: &[u8]) -> Level
     requires { ⌜ structureSize control ≤ length (now body) ⌝ }
     ensures { λ r. ⌜ r ≡ need control (now (body .entry)) ⌝ }
 {
+    if control == codes::GET_DRIVER_INFO {
+        return Level::RESTRICTED;
+    }
+    if control == codes::GET_PHY_INFO {
+        return Level::RESTRICTED;
+    }
     if control == codes::SET_PHY_INFO {
         return Level::FULL;
     }
-    if control == codes::STP_PASSTHRU {
-        return Level::from_need(body[18]);
+    if control == codes::GET_LINK_ERRORS {
+        return Level::RESTRICTED;
     }
-    Level::RESTRICTED
+    if control == codes::STP_PASSTHRU {
+        return Level::from_need(body[stp::COMMAND]);
+    }
+    if control == codes::GET_SATA_SIGNATURE {
+        return Level::RESTRICTED;
+    }
+    if control == codes::GET_SCSI_ADDRESS {
+        return Level::RESTRICTED;
+    }
+    if control == codes::GET_DEVICE_ADDRESS {
+        return Level::RESTRICTED;
+    }
+    Level::FULL
 }

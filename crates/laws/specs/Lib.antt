@@ -11,3 +11,4 @@ pub mod Flat
 pub mod Cases
 pub mod Ascii
 pub mod Runs
+pub mod Checks

@@ -1,6 +1,6 @@
 -- Runs of any step over any list of events: what goes on holding, the last writer of any view, and two runs compared. A step leads from a
 -- point to the next, and its note is what the log keeps of it. Assumes nothing.
-use mathlib.Core.Path.{_≡_, refl, sym, _∙_, ap, ap₂}
+use mathlib.Core.Path.{_≡_, refl, _∙_, ap, ap₂}
 use mathlib.Core.Bool.{Bool, true, false, cond}
 use mathlib.Core.List.{List, [], _∷_}
 use Rattle.laws.specs.Cases.{All}

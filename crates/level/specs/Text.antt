@@ -57,6 +57,10 @@ exact entry =
     (cond (sameBytes entry (ascii "CSMI=Full;")) (Given full)
     Bad)))
 
+-- what one entry says: nothing where it does not begin with CSMI=
+unfoldable pub entrySetting : List ℕ → Setting
+entrySetting entry = cond (begins entry) (exact entry) Absent
+
 -- "With no such entry", "with one that is exactly", "anything else, two such entries included"
 abbrev pub settingOf : List (List ℕ) → Setting
 settingOf [] = Absent

@@ -1,6 +1,6 @@
 -- The walk through the entries of a text, one after the other, and that it gives what document 01 says of all of them.
 -- Assumes nothing.
-use mathlib.Core.Path.{_≡_, refl, sym, _∙_}
+use mathlib.Core.Path.{_≡_, refl, sym, _∙_, ap}
 use mathlib.Core.Bool.{Bool, cond}
 use mathlib.Core.List.{List, [], _∷_}
 use Prim.Native.Nat.{ℕ, suc, _+_, _-_, _<_, _≤_}
@@ -18,7 +18,7 @@ use Rattle.laws.specs.Splice.{part}
 use Rattle.wire.specs.Same.{sameBytes}
 use Rattle.level.specs.declared.Setting.{Setting}
 use Rattle.level.specs.declared.Setting.the-variants.{Absent, Given, Bad}
-use Rattle.level.specs.Text.{inFront, semicolon, entries, begins, ours, exact, settingOf}
+use Rattle.level.specs.Text.{inFront, semicolon, entries, begins, ours, exact, entrySetting, settingOf}
 
 -- one more entry that begins with CSMI= : the first decides, and a second is one too many
 abbrev pub another : Setting → Setting → Setting
@@ -26,9 +26,29 @@ another Absent e = e
 another (Given l) e = Bad
 another Bad e = Bad
 
+-- one more entry, by what it says
+abbrev pub joined : Setting → Setting → Setting
+joined s Absent = s
+joined s (Given l) = another s (Given l)
+joined s Bad = another s Bad
+
 -- one more entry
 unfoldable pub afterEntry : Setting → List ℕ → Setting
 afterEntry s entry = cond (begins entry) (another s (exact entry)) s
+
+exact-joined : (s : Setting) (e : List ℕ) → joined s (exact e) ≡ another s (exact e)
+unfolding exact
+exact-joined s e =
+    either (λ (x : Setting). joined s x ≡ another s x) (sameBytes e (ascii "CSMI=None;")) refl
+    (either (λ (x : Setting). joined s x ≡ another s x) (sameBytes e (ascii "CSMI=Restricted;")) refl
+    (either (λ (x : Setting). joined s x ≡ another s x) (sameBytes e (ascii "CSMI=Limited;")) refl
+    (either (λ (x : Setting). joined s x ≡ another s x) (sameBytes e (ascii "CSMI=Full;")) refl refl)))
+
+pub entry-joined : (s x r : Setting) (e : List ℕ) → x ≡ entrySetting e → r ≡ joined s x → r ≡ afterEntry s e
+unfolding entrySetting afterEntry
+entry-joined s x r e p q =
+    q ∙ ap (joined s) p
+    ∙ by-bool (λ (b : Bool). joined s (cond b (exact e) Absent) ≡ cond b (another s (exact e)) s) (exact-joined s e) refl (begins e)
 
 -- the entries one after the other
 unfoldable pub walked : Setting → List (List ℕ) → Setting

@@ -3,9 +3,11 @@ mod need;
 mod text;
 
 use need::listed;
+use text::begins_ours;
+use text::exact_level;
 pub use text::of_text;
 ghost use mathlib.Core.Path.{_≡_};
-ghost use Rattle.level.specs.Text.{exact};
+ghost use Rattle.level.specs.Text.{entrySetting};
 ghost use Rattle.level.specs.Need.{needOf};
 
 // How much a console may do: None 0, Restricted 1, Limited 2, Full 3.
@@ -36,23 +38,14 @@ impl Level {
 
     pub const FULL: Level = Level(3);
 
-    // The level that an entry beginning with CSMI= gives.
+    // What an entry says of the level. One that does not begin with CSMI= says nothing.
     pub fn from_entry(entry: &[u8]) -> Setting
-        ensures { λ r. ⌜ r ≡ exact (now (entry .entry)) ⌝ }
+        ensures { λ r. ⌜ r ≡ entrySetting (now (entry .entry)) ⌝ }
     {
-        if wire::same(entry, b"CSMI=None;") {
-            return Setting::Given(Level::NONE);
+        if begins_ours(entry) {
+            return exact_level(entry);
         }
-        if wire::same(entry, b"CSMI=Restricted;") {
-            return Setting::Given(Level::RESTRICTED);
-        }
-        if wire::same(entry, b"CSMI=Limited;") {
-            return Setting::Given(Level::LIMITED);
-        }
-        if wire::same(entry, b"CSMI=Full;") {
-            return Setting::Given(Level::FULL);
-        }
-        Setting::Bad
+        Setting::Absent
     }
 
     // The lowest level that may send a command, by the command's code.

@@ -7,13 +7,32 @@ ghost use Prim.Native.Nat.{_+_, _-_, _<_, _≤_};
 ghost use lib.ListN.{length, drop};
 ghost use Rattle.laws.specs.Splice.{part};
 ghost use Rattle.level.specs.Text.{begins, exact, settingOf, ours, entries, meant, textLevel};
-ghost use Rattle.level.specs.Walk.{another, afterEntry, entryLength};
+ghost use Rattle.level.specs.Walk.{another, joined, afterEntry, entryLength};
 
 // The entry begins with the five bytes CSMI= .
-fn begins_ours(entry: &[u8]) -> bool
+pub fn begins_ours(entry: &[u8]) -> bool
     ensures { λ r. ⌜ r ≡ begins (now (entry .entry)) ⌝ }
 {
     wire::same_at(entry, 0, b"CSMI=")
+}
+
+// What an entry that begins with CSMI= says.
+pub fn exact_level(entry: &[u8]) -> Setting
+    ensures { λ r. ⌜ r ≡ exact (now (entry .entry)) ⌝ }
+{
+    if wire::same(entry, b"CSMI=None;") {
+        return Setting::Given(Level::NONE);
+    }
+    if wire::same(entry, b"CSMI=Restricted;") {
+        return Setting::Given(Level::RESTRICTED);
+    }
+    if wire::same(entry, b"CSMI=Limited;") {
+        return Setting::Given(Level::LIMITED);
+    }
+    if wire::same(entry, b"CSMI=Full;") {
+        return Setting::Given(Level::FULL);
+    }
+    Setting::Bad
 }
 
 // What was said before, and then by one more entry that begins with CSMI= .
@@ -27,20 +46,22 @@ fn another(before: Setting, entry: Setting) -> Setting
     }
 }
 
-fn read_ours(before: Setting, entry: &[u8]) -> Setting
-    ensures { λ r. ⌜ r ≡ another before (exact (now (entry .entry))) ⌝ }
+// What was said before, and then by one more entry, by what it says.
+fn join(before: Setting, entry: Setting) -> Setting
+    ensures { λ r. ⌜ r ≡ joined before entry ⌝ }
 {
-    another(before, Level::from_entry(entry))
+    match entry {
+        Setting::Absent => before,
+        Setting::Given(l) => another(before, Setting::Given(l)),
+        Setting::Bad => another(before, Setting::Bad),
+    }
 }
 
 // What was said before, and then by one more entry.
 fn read_entry(before: Setting, entry: &[u8]) -> Setting
     ensures { λ r. ⌜ r ≡ afterEntry before (now (entry .entry)) ⌝ }
 {
-    if begins_ours(entry) {
-        return read_ours(before, entry);
-    }
-    before
+    join(before, Level::from_entry(entry))
 }
 
 // Past the end of the entry that starts at an index: behind its semicolon, or the end of the text.

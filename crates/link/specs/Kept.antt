@@ -14,7 +14,8 @@ use Rattle.fields.specs.Rules.{fieldsHold}
 use Rattle.phy.specs.Kept.{Kept, Settings, kept-trans, settings-trans}
 use Rattle.phy.specs.Changed.{kept-cleared, kept-raised, kept-negotiated, settings-cleared, settings-raised, settings-negotiated, negotiated-cleared, negotiated-raised, negotiated-now, entity-raised, counters-raised, counters-negotiated, bytes-negotiated}
 use Rattle.fields.specs.Hold.{fields-kept}
-use Rattle.link.specs.Rule.{disabledRate, failedRate, ruleOf, counted, reset, disabled, negotiatedHolds}
+use Rattle.codes.specs.Codes.{phyDisabled, linkRateFailed}
+use Rattle.link.specs.Rule.{ruleOf, counted, reset, disabled, negotiatedHolds}
 
 -- the rule goes by what neither changes
 pub rule-kept : (a b : Phy) → Kept a b → Settings a b → ruleOf b ≡ ruleOf a
@@ -26,7 +27,7 @@ given : (phy : Phy) → negotiatedOf phy ≡ ruleOf phy → negotiatedHolds phy 
 unfolding negotiatedHolds
 given phy e =
     by-bool (λ (t : Bool). t || eqb (negotiatedOf phy) (ruleOf phy) ≡ true) refl (eq-eqb (negotiatedOf phy) (ruleOf phy) e)
-    (eqb (negotiatedOf phy) disabledRate)
+    (eqb (negotiatedOf phy) phyDisabled)
 
 pub holds-kept : (a b : Phy) → Kept a b → Settings a b → negotiatedOf b ≡ negotiatedOf a → negotiatedHolds b ≡ negotiatedHolds a
 unfolding negotiatedHolds
@@ -45,14 +46,14 @@ module _ (phy : Phy) where
   pub kept-reset : Kept phy (reset phy)
   unfolding reset counted
   kept-reset =
-      either (λ (b : Phy). Kept phy b) (eqb (ruleOf phy) failedRate)
+      either (λ (b : Phy). Kept phy b) (eqb (ruleOf phy) linkRateFailed)
       (kept-trans phy linked (raised linked) (kept-negotiated phy (ruleOf phy)) (kept-raised linked))
       (kept-negotiated phy (ruleOf phy))
 
   pub settings-reset : Settings phy (reset phy)
   unfolding reset counted
   settings-reset =
-      either (λ (b : Phy). Settings phy b) (eqb (ruleOf phy) failedRate)
+      either (λ (b : Phy). Settings phy b) (eqb (ruleOf phy) linkRateFailed)
       (settings-trans phy linked (raised linked) (settings-negotiated phy (ruleOf phy)) (settings-raised linked))
       (settings-negotiated phy (ruleOf phy))
 
@@ -60,20 +61,20 @@ module _ (phy : Phy) where
   pub bytes-reset : (i : ℕ) → (i ≡ negotiatedPlace → ⊥) → byteOf (reset phy) i ≡ byteOf phy i
   unfolding reset counted
   bytes-reset i h =
-      either (λ (b : Phy). byteOf b i ≡ byteOf phy i) (eqb (ruleOf phy) failedRate)
+      either (λ (b : Phy). byteOf b i ≡ byteOf phy i) (eqb (ruleOf phy) linkRateFailed)
       (rw (entity-raised linked) (bytes-negotiated phy (ruleOf phy) i h))
       (bytes-negotiated phy (ruleOf phy) i h)
 
-  pub counters-reset : reset phy .counters ≡ cond (eqb (ruleOf phy) failedRate) (raised phy .counters) (phy .counters)
+  pub counters-reset : reset phy .counters ≡ cond (eqb (ruleOf phy) linkRateFailed) (raised phy .counters) (phy .counters)
   unfolding reset counted
   counters-reset =
       by-bool (λ (t : Bool). cond t (raised linked) linked .counters ≡ cond t (raised phy .counters) (phy .counters))
-      (rw (counters-raised, counters-raised, counters-negotiated)) (counters-negotiated phy (ruleOf phy)) (eqb (ruleOf phy) failedRate)
+      (rw (counters-raised, counters-raised, counters-negotiated)) (counters-negotiated phy (ruleOf phy)) (eqb (ruleOf phy) linkRateFailed)
 
   pub negotiated-reset : length (phy .entity) ≡ 64 → negotiatedOf (reset phy) ≡ ruleOf phy
   unfolding reset counted
   negotiated-reset e =
-      either (λ (b : Phy). negotiatedOf b ≡ ruleOf phy) (eqb (ruleOf phy) failedRate)
+      either (λ (b : Phy). negotiatedOf b ≡ ruleOf phy) (eqb (ruleOf phy) linkRateFailed)
       (negotiated-raised linked ∙ negotiated-now phy (ruleOf phy) e)
       (negotiated-now phy (ruleOf phy) e)
 
@@ -88,23 +89,23 @@ module _ (phy : Phy) where
 module _ (phy : Phy) where
   pub kept-disabled : Kept phy (disabled phy)
   unfolding disabled
-  kept-disabled = kept-negotiated phy disabledRate
+  kept-disabled = kept-negotiated phy phyDisabled
 
   pub settings-disabled : Settings phy (disabled phy)
   unfolding disabled
-  settings-disabled = settings-negotiated phy disabledRate
+  settings-disabled = settings-negotiated phy phyDisabled
 
   pub bytes-disabled : (i : ℕ) → (i ≡ negotiatedPlace → ⊥) → byteOf (disabled phy) i ≡ byteOf phy i
   unfolding disabled
-  bytes-disabled i h = bytes-negotiated phy disabledRate i h
+  bytes-disabled i h = bytes-negotiated phy phyDisabled i h
 
   pub counters-disabled : disabled phy .counters ≡ phy .counters
   unfolding disabled
-  counters-disabled = counters-negotiated phy disabledRate
+  counters-disabled = counters-negotiated phy phyDisabled
 
-  pub negotiated-disabled : length (phy .entity) ≡ 64 → negotiatedOf (disabled phy) ≡ disabledRate
+  pub negotiated-disabled : length (phy .entity) ≡ 64 → negotiatedOf (disabled phy) ≡ phyDisabled
   unfolding disabled
-  negotiated-disabled e = negotiated-now phy disabledRate e
+  negotiated-disabled e = negotiated-now phy phyDisabled e
 
   pub holds-disabled : length (phy .entity) ≡ 64 → negotiatedHolds (disabled phy) ≡ true
   unfolding negotiatedHolds

@@ -3,16 +3,10 @@
 use mathlib.Core.Bool.{Bool, cond, _&&_, _||_}
 use Prim.Native.Nat.{ℕ}
 use lib.Dec.{eqb, leb}
+use Rattle.codes.specs.Codes.{phyDisabled, linkRateFailed, linkRate15, linkRate30}
 use Rattle.phy.specs.declared.Phy.{Phy}
 use Rattle.phy.specs.Entity.{noDevice, negotiatedOf, programmedMinimum, programmedMaximum}
 use Rattle.phy.specs.Change.{raised, negotiatedAs}
-
--- "1 (disabled)", "2 (failed)"
-abbrev pub disabledRate : ℕ
-disabledRate = 1
-
-abbrev pub failedRate : ℕ
-failedRate = 2
 
 -- a rate "inside both the programmed and the device range"
 unfoldable pub inBoth : ℕ → ℕ → ℕ → ℕ → ℕ → Bool
@@ -22,23 +16,23 @@ inBoth rate minimum maximum lowest highest = leb minimum rate && leb rate maximu
 unfoldable pub ratesRule : Bool → ℕ → ℕ → ℕ → ℕ → ℕ
 ratesRule none minimum maximum lowest highest =
     cond none 0
-    (cond (inBoth 9 minimum maximum lowest highest) 9
-    (cond (inBoth 8 minimum maximum lowest highest) 8
-    failedRate))
+    (cond (inBoth linkRate30 minimum maximum lowest highest) linkRate30
+    (cond (inBoth linkRate15 minimum maximum lowest highest) linkRate15
+    linkRateFailed))
 
 unfoldable pub ruleOf : Phy → ℕ
 ruleOf phy = ratesRule (noDevice phy) (programmedMinimum phy) (programmedMaximum phy) (phy .lowest) (phy .highest)
 
 -- "A link reset that gives 2 adds one to the phy reset problem counter"
 unfoldable pub counted : Phy → ℕ → Phy
-counted phy rate = cond (eqb rate failedRate) (raised phy) phy
+counted phy rate = cond (eqb rate linkRateFailed) (raised phy) phy
 
 unfoldable pub reset : Phy → Phy
 reset phy = counted (negotiatedAs phy (ruleOf phy)) (ruleOf phy)
 
 unfoldable pub disabled : Phy → Phy
-disabled phy = negotiatedAs phy disabledRate
+disabled phy = negotiatedAs phy phyDisabled
 
 -- "Negotiated rate is 1 (disabled) or what the link rule gives"
 unfoldable pub negotiatedHolds : Phy → Bool
-negotiatedHolds phy = eqb (negotiatedOf phy) disabledRate || eqb (negotiatedOf phy) (ruleOf phy)
+negotiatedHolds phy = eqb (negotiatedOf phy) phyDisabled || eqb (negotiatedOf phy) (ruleOf phy)

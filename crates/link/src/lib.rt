@@ -7,12 +7,6 @@ use phy::Phy;
 ghost use mathlib.Core.Path.{_≡_};
 ghost use Rattle.link.specs.Rule.{inBoth, ratesRule, ruleOf, counted, reset, disabled, negotiatedHolds};
 
-// A disabled phy's negotiated rate.
-const DISABLED: u8 = 1;
-
-// The negotiated rate where the phy and the device have none in common.
-const FAILED: u8 = 2;
-
 fn in_both(rate: u8, minimum: u8, maximum: u8, lowest: u8, highest: u8) -> bool
     ensures { λ r. ⌜ r ≡ inBoth rate minimum maximum lowest highest ⌝ }
 {
@@ -25,13 +19,13 @@ fn rates_rule(none: bool, minimum: u8, maximum: u8, lowest: u8, highest: u8) -> 
     if none {
         return 0;
     }
-    if in_both(9, minimum, maximum, lowest, highest) {
-        return 9;
+    if in_both(codes::LINK_RATE_3_0, minimum, maximum, lowest, highest) {
+        return codes::LINK_RATE_3_0;
     }
-    if in_both(8, minimum, maximum, lowest, highest) {
-        return 8;
+    if in_both(codes::LINK_RATE_1_5, minimum, maximum, lowest, highest) {
+        return codes::LINK_RATE_1_5;
     }
-    FAILED
+    codes::LINK_RATE_FAILED
 }
 
 // The rate that a link reset gives.
@@ -50,7 +44,7 @@ pub fn rule(phy: Phy) -> u8
 fn count_failure(phy: Phy, rate: u8) -> Phy
     ensures { λ r. ⌜ r ≡ counted phy rate ⌝ }
 {
-    if rate == FAILED {
+    if rate == codes::LINK_RATE_FAILED {
         return phy.raised();
     }
     phy
@@ -68,7 +62,7 @@ pub fn reset(phy: Phy) -> Phy
 pub fn disabled(phy: Phy) -> Phy
     ensures { λ r. ⌜ r ≡ disabled phy ⌝ }
 {
-    phy.with_negotiated(DISABLED)
+    phy.with_negotiated(codes::PHY_DISABLED)
 }
 
 // The field rule of the negotiated rate.
@@ -76,5 +70,5 @@ pub fn negotiated_holds(phy: Phy) -> bool
     ensures { λ r. ⌜ r ≡ negotiatedHolds phy ⌝ }
 {
     let negotiated = phy.negotiated();
-    (negotiated == DISABLED) | (negotiated == rule(phy))
+    (negotiated == codes::PHY_DISABLED) | (negotiated == rule(phy))
 }

@@ -9,7 +9,8 @@ use Rattle.laws.specs.Splice.{part, length-part, lent-back}
 use Rattle.phy.specs.declared.PhyIdentifier.{PhyIdentifier}
 use Rattle.phy.specs.declared.PortIdentifier.{PortIdentifier}
 use Rattle.adapter.specs.Adapter.{Adapter, mediumSize}
-use Rattle.disk.specs.Disk.{dataLength, performs, performed, Performed}
+use Rattle.stp.specs.Body.{dataLength}
+use Rattle.disk.specs.Disk.{performs, performed, Performed}
 use Rattle.disk.specs.Laws.{disk-length}
 use Rattle.select.specs.declared.Selection.{Selection}
 use Rattle.select.specs.Select.{selectIn}

@@ -3,15 +3,13 @@ use mathlib.Core.Bool.{Bool, cond, _&&_, _||_}
 use mathlib.Core.List.{List}
 use Prim.Native.Nat.{ℕ, _*_}
 use lib.Dec.{eqb, leb}
-use lib.ListN.{getD}
 use Rattle.laws.specs.Splice.{part, splice}
 use Rattle.codes.specs.Codes.{success, invalidParameter, connectionFailed}
 use Rattle.phy.specs.declared.Phy.{Phy}
-use Rattle.phy.specs.declared.PhyIdentifier.{PhyIdentifier}
-use Rattle.phy.specs.declared.PortIdentifier.{PortIdentifier}
 use Rattle.phy.specs.Entity.{isSata, negotiatedOf, attachedIs}
 use Rattle.fields.specs.Rules.{isRate}
-use Rattle.disk.specs.Disk.{fis, Performed, performed}
+use Rattle.stp.specs.Body.{phyAsked, portAsked, connectionRate, destinationOf, fis}
+use Rattle.disk.specs.Disk.{Performed, performed}
 use Rattle.adapter.specs.Adapter.{Adapter, phyIn}
 use Rattle.select.specs.declared.Selection.{Selection}
 use Rattle.select.specs.Select.{selectIn}
@@ -25,23 +23,6 @@ pub record Passed : Type 0 where
 -- the three together
 abbrev pub passes : ℕ → List ℕ → List ℕ → Passed
 passes code medium body = record { code = code; medium = medium; body = body }
-
--- ---- the fields of the body. "uFlags is not read"
-
--- the phy and the port that it names
-abbrev pub phyAsked : List ℕ → PhyIdentifier
-phyAsked body = record { 0 = getD body 0 0 }
-
-abbrev pub portAsked : List ℕ → PortIdentifier
-portAsked body = record { 0 = getD body 1 0 }
-
--- the connection rate
-abbrev pub connectionRate : List ℕ → ℕ
-connectionRate body = getD body 2 0
-
--- the destination
-abbrev pub destinationOf : List ℕ → List ℕ
-destinationOf body = part body 4 8
 
 -- ---- what is asked of a request
 

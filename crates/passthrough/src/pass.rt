@@ -7,11 +7,12 @@ use select::select_phy;
 ghost use mathlib.Core.Path.{_≡_};
 ghost use Prim.Native.Nat.{_+_, _*_, _<_, _≤_};
 ghost use lib.ListN.{length};
-ghost use Rattle.disk.specs.Disk.{dataLength};
+ghost use Rattle.stp.specs.Body.{dataLength};
 ghost use Rattle.adapter.specs.Adapter.{mediumSize, phyIn};
 ghost use Rattle.tables.specs.Tables.{tablesSize, tablesOf};
 ghost use Rattle.select.specs.Select.{selectIn};
-ghost use Rattle.passthrough.specs.Passthrough.{passes, phyAsked, portAsked, connectionRate, destinationOf};
+ghost use Rattle.stp.specs.Body.{phyAsked, portAsked, connectionRate, destinationOf};
+ghost use Rattle.passthrough.specs.Passthrough.{passes};
 ghost use Rattle.passthrough.specs.Passthrough.{formHolds, connected, onDisk, sentTo, passedTo, passthrough};
 
 // A register host-to-device FIS.
@@ -41,7 +42,11 @@ fn is_connected(tables: &[u8], n: PhyIdentifier, body: &[u8]) -> bool
     ensures { λ r. ⌜ r ≡ connected (phyIn (tablesOf (now (tables .entry))) (n .0)) (connectionRate (now (body .entry)))
         (destinationOf (now (body .entry))) ⌝ }
 {
-    reaches(tables::phy_at(tables, n), body[2], &body[4..12])
+    reaches(
+        tables::phy_at(tables, n),
+        body[stp::CONNECTION_RATE],
+        &body[stp::DESTINATION..stp::DESTINATION_END],
+    )
 }
 
 // The phy's disk is lent to the command as a part of the medium.
@@ -92,7 +97,11 @@ fn pass_selected(tables: &[u8], medium: &mut [u8], body: &mut [u8]) -> u32
         ≡ passedTo (tablesOf (now (tables .entry))) (now (medium .entry)) (now (body .entry))
         (selectIn (tablesOf (now (tables .entry))) (phyAsked (now (body .entry))) (portAsked (now (body .entry)))) ⌝ }
 {
-    let s = select_phy(tables, PhyIdentifier(body[0]), PortIdentifier(body[1]));
+    let s = select_phy(
+        tables,
+        PhyIdentifier(body[stp::PHY]),
+        PortIdentifier(body[stp::PORT]),
+    );
     pass_to(tables, medium, body, s)
 }
 
@@ -105,7 +114,7 @@ pub fn pass_through(tables: &[u8], medium: &mut [u8], body: &mut [u8]) -> u32
     ensures { λ code. ⌜ passes code (now (medium .exit)) (now (body .exit))
         ≡ passthrough (tablesOf (now (tables .entry))) (now (medium .entry)) (now (body .entry)) ⌝ }
 {
-    if is_form(body[16], body[2]) {
+    if is_form(body[stp::FIS_TYPE], body[stp::CONNECTION_RATE]) {
         return pass_selected(tables, medium, body);
     }
     codes::INVALID_PARAMETER

@@ -5,6 +5,7 @@ use Prim.Native.Nat.{ℕ, _/_, _%_}
 use lib.Dec.{eqb}
 use lib.ListN.{getD}
 use Rattle.laws.specs.Splice.{part}
+use Rattle.codes.specs.Codes.{noDeviceAttached, endDevice}
 use Rattle.wire.specs.Same.{sameBytes}
 use Rattle.phy.specs.declared.Phy.{Phy}
 use Rattle.phy.specs.declared.PhyIdentifier.{PhyIdentifier}
@@ -78,14 +79,14 @@ attachedType phy = byteOf phy attachedPlace
 
 -- "Attached device type 00h none"
 unfoldable pub noDevice : Phy → Bool
-noDevice phy = eqb (attachedType phy) 0
+noDevice phy = eqb (attachedType phy) noDeviceAttached
 
 unfoldable pub attachedAddress : Phy → List ℕ
 attachedAddress phy = part (phy .entity) addressPlace 8
 
 -- "A SATA phy has type 10h and bit 0 of its attached target protocols set"
 unfoldable pub isSata : Phy → Bool
-isSata phy = eqb (attachedType phy) 0x10 && eqb (byteOf phy protocolsPlace % 2) 1
+isSata phy = eqb (attachedType phy) endDevice && eqb (byteOf phy protocolsPlace % 2) 1
 
 -- "destination = attached SAS address"
 unfoldable pub attachedIs : Phy → List ℕ → Bool

@@ -73,14 +73,14 @@ impl Phy {
         ensures { λ r. ⌜ r ≡ noDevice self ⌝ }
     {
         let device = self.entity[ATTACHED];
-        device == 0
+        device == codes::NO_DEVICE_ATTACHED
     }
 
     // A SATA device is attached.
     pub fn is_sata(self) -> bool
         ensures { λ r. ⌜ r ≡ isSata self ⌝ }
     {
-        (self.entity[ATTACHED] == 0x10) & (self.entity[PROTOCOLS] % 2 == 1)
+        (self.entity[ATTACHED] == codes::END_DEVICE) & (self.entity[PROTOCOLS] % 2 == 1)
     }
 
     // The attached SAS address is the given one.

@@ -26,18 +26,18 @@ abbrev pub notSelected : ℕ → Selection
 notSelected code = record { code = code; phy = record { 0 = 0 } }
 
 -- "A port alone selects its lowest phy": the first phy below p whose port it is, or p
-unfoldable pub lowestOf : (ℕ → PortIdentifier) → ℕ → PortIdentifier → ℕ
-lowestOf ports p port = first (λ n. eqb (ports n .0) (port .0)) p
+unfoldable pub lowestOf : (ℕ → PortIdentifier) → ℕ → PortIdentifier → PhyIdentifier
+lowestOf ports p port = record { 0 = first (λ n. eqb (ports n .0) (port .0)) p }
 
 -- "phy and port not both FFh; phy, if not FFh, below p; port, if not FFh, that of some phy; both given: that phy has that port":
 -- with the lowest phy of the port, which is p where no phy has it, and the phy's own port
-unfoldable pub selection : PhyIdentifier → PortIdentifier → ℕ → ℕ → PortIdentifier → Selection
+unfoldable pub selection : PhyIdentifier → PortIdentifier → ℕ → PhyIdentifier → PortIdentifier → Selection
 selection phy port p lowest own =
     cond (not (phyGiven phy) && not (portGiven port)) (notSelected selectPhyOrPort)
     (cond (phyGiven phy && leb p (phy .0)) (notSelected phyDoesNotExist)
-    (cond (portGiven port && leb p lowest) (notSelected portDoesNotExist)
+    (cond (portGiven port && leb p (lowest .0)) (notSelected portDoesNotExist)
     (cond (phyGiven phy && portGiven port && not (eqb (own .0) (port .0))) (notSelected phyDoesNotMatchPort)
-    (cond (phyGiven phy) (selected phy) (selected (record { 0 = lowest }))))))
+    (cond (phyGiven phy) (selected phy) (selected lowest)))))
 
 -- the same by the port of each phy below p
 unfoldable pub selectBy : (ℕ → PortIdentifier) → ℕ → PhyIdentifier → PortIdentifier → Selection

@@ -7,6 +7,7 @@ ghost use Prim.Native.Nat.{_<_, _≤_};
 ghost use lib.Dec.{eqb, leb};
 ghost use lib.ListN.{length};
 ghost use Rattle.tables.specs.Tables.{tablesSize, tablesOf};
+ghost use Rattle.select.specs.Laws.{selectionPast};
 ghost use Rattle.select.specs.Select.{phyGiven, portGiven, lowestOf, selection, notSelected, selected, selectBy, portIn, selectIn};
 
 // The phy that was selected, where code is 0.
@@ -45,10 +46,10 @@ fn no_such_phy(phy: PhyIdentifier, p: u8) -> bool
     phy_given(phy) & (p <= phy.0)
 }
 
-fn no_such_port(port: PortIdentifier, p: u8, lowest: u8) -> bool
-    ensures { λ r. ⌜ r ≡ portGiven port && leb p lowest ⌝ }
+fn no_such_port(port: PortIdentifier, p: u8, lowest: PhyIdentifier) -> bool
+    ensures { λ r. ⌜ r ≡ portGiven port && leb p (lowest .0) ⌝ }
 {
-    port_given(port) & (p <= lowest)
+    port_given(port) & (p <= lowest.0)
 }
 
 fn of_other_port(phy: PhyIdentifier, port: PortIdentifier, own: PortIdentifier) -> bool
@@ -80,7 +81,7 @@ fn choose(
     phy: PhyIdentifier,
     port: PortIdentifier,
     p: u8,
-    lowest: u8,
+    lowest: PhyIdentifier,
     own: PortIdentifier,
 ) -> Selection
     ensures { λ r. ⌜ r ≡ selection phy port p lowest own ⌝ }
@@ -100,7 +101,7 @@ fn choose(
     if phy_given(phy) {
         return selected(phy);
     }
-    selected(PhyIdentifier(lowest))
+    selected(lowest)
 }
 
 // Phy n has that port.
@@ -113,11 +114,11 @@ fn has_port(tables: &[u8], n: PhyIdentifier, port: PortIdentifier) -> bool
     own.0 == port.0
 }
 
-// The first phy of a port, or p.
-fn lowest(tables: &[u8], p: u8, port: PortIdentifier) -> u8
+// The number of the first phy of a port, or p.
+fn first_of(tables: &[u8], p: u8, port: PortIdentifier) -> u8
     requires { ⌜ p ≤ 32 ⌝ }
     requires { ⌜ length (now tables) ≡ tablesSize ⌝ }
-    ensures { λ r. ⌜ r ≡ lowestOf (portIn (tablesOf (now (tables .entry)))) p port ⌝ }
+    ensures { λ r. ⌜ r ≡ lowestOf (portIn (tablesOf (now (tables .entry)))) p port .0 ⌝ }
 {
     let mut i = 0;
     while i < p {
@@ -129,13 +130,21 @@ fn lowest(tables: &[u8], p: u8, port: PortIdentifier) -> u8
     p
 }
 
+fn lowest(tables: &[u8], p: u8, port: PortIdentifier) -> PhyIdentifier
+    requires { ⌜ p ≤ 32 ⌝ }
+    requires { ⌜ length (now tables) ≡ tablesSize ⌝ }
+    ensures { λ r. ⌜ r ≡ lowestOf (portIn (tablesOf (now (tables .entry)))) p port ⌝ }
+{
+    PhyIdentifier(first_of(tables, p, port))
+}
+
 // A phy that exists, and its own port.
 fn select_existing(
     tables: &[u8],
     p: u8,
     phy: PhyIdentifier,
     port: PortIdentifier,
-    lowest: u8,
+    lowest: PhyIdentifier,
 ) -> Selection
     requires { ⌜ phy .0 < 32 ⌝ }
     requires { ⌜ length (now tables) ≡ tablesSize ⌝ }
@@ -144,13 +153,29 @@ fn select_existing(
     choose(phy, port, p, lowest, tables::port_at(tables, phy))
 }
 
+// A phy that is not given, or does not exist.
+fn select_past(phy: PhyIdentifier, port: PortIdentifier, p: u8, lowest: PhyIdentifier) -> Selection
+    ensures { λ r. ⌜ r ≡ selectionPast phy port p lowest ⌝ }
+{
+    if neither_given(phy, port) {
+        return not_selected(codes::SELECT_PHY_OR_PORT);
+    }
+    if phy_given(phy) {
+        return not_selected(codes::PHY_DOES_NOT_EXIST);
+    }
+    if no_such_port(port, p, lowest) {
+        return not_selected(codes::PORT_DOES_NOT_EXIST);
+    }
+    selected(lowest)
+}
+
 // With the lowest phy of the port.
 fn select_from(
     tables: &[u8],
     p: u8,
     phy: PhyIdentifier,
     port: PortIdentifier,
-    lowest: u8,
+    lowest: PhyIdentifier,
 ) -> Selection
     requires { ⌜ p ≤ 32 ⌝ }
     requires { ⌜ length (now tables) ≡ tablesSize ⌝ }
@@ -159,8 +184,7 @@ fn select_from(
     if phy.0 < p {
         return select_existing(tables, p, phy, port, lowest);
     }
-    // there is no such phy, so its port does not matter
-    choose(phy, port, p, lowest, port)
+    select_past(phy, port, p, lowest)
 }
 
 // Out of the phys below p.
@@ -173,7 +197,7 @@ fn select_below(tables: &[u8], p: u8, phy: PhyIdentifier, port: PortIdentifier) 
         return select_from(tables, p, phy, port, lowest(tables, p, port));
     }
     // no port to look for
-    select_from(tables, p, phy, port, 0)
+    select_from(tables, p, phy, port, PhyIdentifier(0))
 }
 
 // The phy for a phy identifier and a port identifier, each of which may stand for none.

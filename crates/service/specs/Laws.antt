@@ -4,7 +4,7 @@ use mathlib.Core.List.{List}
 use Prim.Native.Nat.{ℕ, _+_, _≤_}
 use native.Mathlib.Nat.{le-trans, le-add-right}
 use Rattle.codes.specs.Codes.{stpPassthru}
-use Rattle.disk.specs.Disk.{dataLength}
+use Rattle.stp.specs.Body.{dataLength}
 use Rattle.header.specs.Table.{structureSize, dataSize}
 use Rattle.adapter.specs.Adapter.{Adapter}
 use Rattle.adapter.specs.Changed.{Changed, leaves}

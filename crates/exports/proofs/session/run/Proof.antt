@@ -3,7 +3,8 @@ use mathlib.Core.Path.{_≡_}
 use Prim.Native.Nat.{_-_, _*_, _≤_}
 use lib.ListN.{length, take, drop}
 use Rattle.state.specs.State.{stateSize, stateOf}
-use Rattle.dispatch.specs.Request.{pointOf, stateNumber}
+use Rattle.service.specs.Serve.{storeOf}
+use Rattle.dispatch.specs.Request.{point, stateNumber}
 use Rattle.exports.specs.Session.{ranFrom}
 use Rattle.exports.specs.Laws.{behind, line-lent, request-there, number-next, run-starts, run-ends, run-full, run-goes-on}
 use borrow.Author.Needs.{needs}
@@ -18,8 +19,8 @@ Inv-loop state₀ medium₀ session₀ lines₀ number at₀ count₀ room state
     × (length medium ≡ length medium₀)
     × (length session ≡ length session₀)
     × (length lines ≡ length lines₀)
-    × (ranFrom room (pointOf (stateOf state₀) medium₀) session₀ lines₀
-    ≡ behind count (take at session) (take (8 * count) lines) (ranFrom (room - count) (pointOf (stateOf state) medium) (drop at session) (drop (8 * count) lines)))
+    × (ranFrom room (point (stateOf state₀) (storeOf medium₀)) session₀ lines₀
+    ≡ behind count (take at session) (take (8 * count) lines) (ranFrom (room - count) (point (stateOf state) (storeOf medium)) (drop at session) (drop (8 * count) lines)))
     × (number ≡ stateNumber (stateOf state) (length medium))
 
 abbrev μ-loop : tie.MeasureT-loop

@@ -1,5 +1,5 @@
 -- `file::read::read_counts` meets its contract. Assumes nothing.
-use Rattle.file.specs.File.{countsRead}
+use Rattle.file.specs.Steps.{countsRead}
 use Rattle.adapter.specs.Store.{phys-bound, rows-bound}
 use borrow.Author.Needs.{needs}
 use Rattle.laws.specs.Choice.{picks}

@@ -1,14 +1,10 @@
 -- `file::read::read_file` meets its contract. Assumes nothing.
-use Rattle.file.specs.File.{fileRead}
+use Rattle.file.specs.Steps.{file-by}
 use borrow.Author.Needs.{needs}
-use Rattle.laws.specs.Choice.{picks}
 use Rattle.file.proofs.read.read_file.Statement.{statement}
 use Rattle.file.proofs.read.read_file.Tie as tie
 
 pub read-file-spec : {M : Type 1} → statement M
-unfolding fileRead
 read-file-spec =
     tie.close
-    (tie.spec (λ c κs. search needs) (λ c. search needs) (λ c. search picks) (λ c κs. search needs) (λ c. search needs)
-    (λ c. search needs) (λ c κs. search needs) (λ c. search needs) (λ c. search picks) (λ c κs. search needs)
-    (λ c. search needs) (λ c. search picks))
+    (tie.spec (λ c κs. search needs) (λ c. search needs) (λ c. search (file-by, needs)))

@@ -1,5 +1,5 @@
 -- `file::read::read_length` meets its contract. Assumes nothing.
-use Rattle.file.specs.File.{lengthRead}
+use Rattle.file.specs.Steps.{lengthRead}
 use borrow.Author.Needs.{needs}
 use Rattle.laws.specs.Choice.{picks}
 use Rattle.file.proofs.read.read_length.Statement.{statement}

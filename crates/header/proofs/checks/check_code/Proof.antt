@@ -9,5 +9,5 @@ pub check-code-spec : {M : Type 1} → statement M
 unfolding codeChecked
 check-code-spec =
     tie.close
-    (tie.spec (λ c κs. search needs) (λ c. search picks) (λ c κs. search needs) (λ c κs. search needs)
+    (tie.spec (λ c κs. search needs) (λ c κs. search needs) (λ c κs. search needs) (λ c. search picks)
     (λ c. search picks) (λ c. search picks) (λ c. search picks))

@@ -10,5 +10,6 @@ pub need-spec : {M : Type 1} → statement M
 unfolding need
 need-spec =
     tie.close
-    (tie.spec (λ c. search picks) (λ c. search (passthrough-room, needs)) (λ c κs. search needs) (λ c. search picks)
-    (λ c. search picks))
+    (tie.spec (λ c. search picks depth 14) (λ c. search picks depth 14) (λ c. search picks depth 14) (λ c. search picks depth 14)
+    (λ c. search (passthrough-room, needs)) (λ c κs. search needs) (λ c. search picks depth 14) (λ c. search picks depth 14)
+    (λ c. search picks depth 14) (λ c. search picks depth 14) (λ c. search picks depth 14))

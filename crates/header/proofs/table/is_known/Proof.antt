@@ -1,0 +1,10 @@
+-- `header::table::is_known` meets its contract. Assumes nothing.
+use Rattle.header.specs.Table.{known}
+use Rattle.header.proofs.table.is_known.Statement.{statement}
+use Rattle.header.proofs.table.is_known.Tie as tie
+
+pub is-known-spec : {M : Type 1} → statement M
+unfolding known
+is-known-spec =
+    tie.close
+    (tie.spec (λ c. cc))
