@@ -181,7 +181,7 @@ fn each_request(
 
 /// What the record holds of a reply.
 pub fn return_code(number: u32, buffer: &[u8]) -> u32 {
-    if number == call::ACCEPTED {
+    if number == call::DONE {
         word(buffer, header::RETURN_CODE)
     } else {
         status::NONE

@@ -3,9 +3,10 @@
 use super::breaks::*;
 use super::form::{Form, Held};
 use super::rules::RULES;
-use super::{seal, Adapter, CHECK_AT, MOST_PHYS, MOST_ROWS};
+use super::{seal, Adapter};
+use crate::names::file::{BLOCK, CHECK, DRIVER_INFO, DRIVER_INFO_END, ROW_COUNT};
 use crate::names::phy::*;
-use crate::names::{call, state, BLOCK, DRIVER_SIZE, ROW_SIZE};
+use crate::names::{call, row, state, ENTITY, MAX_PHYS, MAX_ROWS};
 use crate::random::Random;
 
 /// Breaks a rule; `None` where the adapter has no place for it.
@@ -65,10 +66,10 @@ const fn sealed(name: &'static str, number: u32, break_rule: Break) -> Damage {
 }
 
 pub(super) const fn field(name: &'static str, break_rule: Break) -> Damage {
-    sealed(name, call::FIELD, break_rule)
+    sealed(name, call::COUNT_OR_FIELD, break_rule)
 }
 
-pub(super) const fn row(name: &'static str, break_rule: Break) -> Damage {
+pub(super) const fn shared(name: &'static str, break_rule: Break) -> Damage {
     sealed(name, call::SHARED_ROW, break_rule)
 }
 
@@ -117,13 +118,15 @@ const FILE: &[Damage] = &[
         let at = r.below(file.bytes.len());
         change(r, file, at)
     }),
-    field("bytes 2 and 3", |r, file| spoil(r, file, 2, 4)),
+    field("bytes 2 and 3", |r, file| {
+        spoil(r, file, ROW_COUNT + 1, DRIVER_INFO)
+    }),
     field("after the driver info", |r, file| {
-        spoil(r, file, 4 + DRIVER_SIZE, CHECK_AT)
+        spoil(r, file, DRIVER_INFO_END, CHECK)
     }),
     field("after a phy's bytes", |r, file| {
         let at = file.phy(r.below(file.p()));
-        spoil(r, file, at + SIZE, at + CHECK_AT)
+        spoil(r, file, at + SIZE, at + CHECK)
     }),
     field("past the last row", past_last_row),
     field("between row blocks", between_row_blocks),
@@ -139,12 +142,12 @@ const STATE: &[Damage] = &[
         set(held, state::PHY_COUNT, 0)
     }),
     of_state("33 phys, where 32 are there", |r, held| {
-        let p = MOST_PHYS + r.pick(&[1, 2, 32, 223]);
-        (held.p() == MOST_PHYS).then(|| held.bytes[state::PHY_COUNT] = p as u8)
+        let p = MAX_PHYS + r.pick(&[1, 2, 32, 223]);
+        (held.p() == MAX_PHYS).then(|| held.bytes[state::PHY_COUNT] = p as u8)
     }),
     of_state("65 rows, where 64 are there", |r, held| {
-        let a = MOST_ROWS + r.pick(&[1, 2, 64, 191]);
-        (held.a() == MOST_ROWS).then(|| held.bytes[state::ROW_COUNT] = a as u8)
+        let a = MAX_ROWS + r.pick(&[1, 2, 64, 191]);
+        (held.a() == MAX_ROWS).then(|| held.bytes[state::ROW_COUNT] = a as u8)
     }),
     of_state("p below the phys that are there", |r, held| {
         let p = held.p();
@@ -152,24 +155,22 @@ const STATE: &[Damage] = &[
     }),
     of_state("p beyond the phys that are there", |r, held| {
         let p = held.p();
-        (p < MOST_PHYS).then(|| held.bytes[state::PHY_COUNT] = r.within(p + 1, MOST_PHYS) as u8)
+        (p < MAX_PHYS).then(|| held.bytes[state::PHY_COUNT] = r.within(p + 1, MAX_PHYS) as u8)
     }),
     of_state("a below the rows that are there", |r, held| {
         let a = held.a();
         let last = held.row(a.max(1) - 1);
-        let zero = held.bytes[last..last + ROW_SIZE] == [0; ROW_SIZE];
+        let zero = held.bytes[last..last + row::SIZE] == [0; row::SIZE];
         (a > 0 && !zero).then(|| held.bytes[state::ROW_COUNT] = r.below(a) as u8)
     }),
     of_state(
         "a beyond the rows that are there, by two of zeros",
         |r, held| {
             let a = held.a() + 2;
-            (a <= MOST_ROWS).then(|| held.bytes[state::ROW_COUNT] = r.within(a, MOST_ROWS) as u8)
+            (a <= MAX_ROWS).then(|| held.bytes[state::ROW_COUNT] = r.within(a, MAX_ROWS) as u8)
         },
     ),
-    of_state("entity past p", |r, held| {
-        past_phys(r, held, 0, ENTITY_SIZE)
-    }),
+    of_state("entity past p", |r, held| past_phys(r, held, 0, ENTITY)),
     of_state("counter past p", |r, held| {
         past_phys(r, held, COUNTERS, SIGNATURE)
     }),
@@ -186,9 +187,13 @@ const STATE: &[Damage] = &[
     of_state("highest rate past p", |r, held| {
         past_phys(r, held, HIGHEST, SIZE)
     }),
-    of_state("SAS address past a", |r, held| past_rows(r, held, 0, 8)),
-    of_state("SAS LUN past a", |r, held| past_rows(r, held, 8, 16)),
+    of_state("SAS address past a", |r, held| {
+        past_rows(r, held, 0, row::SAS_LUN)
+    }),
+    of_state("SAS LUN past a", |r, held| {
+        past_rows(r, held, row::SAS_LUN, row::OS)
+    }),
     of_state("OS bytes past a", |r, held| {
-        past_rows(r, held, 16, ROW_SIZE)
+        past_rows(r, held, row::OS, row::SIZE)
     }),
 ];

@@ -1,8 +1,12 @@
 //! Faults put into requests: each changes one thing.
 
-use super::fis::{DEVICE, LBA_BIT};
+use super::fis;
 use crate::adapter::Adapter;
-use crate::names::{body_size, code, header, stp, PROGRAM_LONGEST};
+use crate::names::ata::LBA_MODE;
+use crate::names::{
+    body_size, code, header, link_errors as errors, set_phy_info as info, stp, CSMI_ALL, CSMI_SAS,
+    NOT_GIVEN, PROGRAM_LONGEST,
+};
 use crate::random::Random;
 use crate::wire::{put_word, word};
 
@@ -70,8 +74,8 @@ fn control_code(random: &mut Random, request: &mut [u8]) {
 fn signature(random: &mut Random, request: &mut [u8]) {
     let place = &mut request[header::SIGNATURE..header::TIMEOUT];
     match random.below(4) {
-        0 => place.copy_from_slice(&header::CSMI_ALL),
-        1 => place.copy_from_slice(&header::CSMI_SAS),
+        0 => place.copy_from_slice(&CSMI_ALL),
+        1 => place.copy_from_slice(&CSMI_SAS),
         2 => place.copy_from_slice(b"CSMIPHY\0"),
         _ => {
             let at = random.below(place.len());
@@ -134,8 +138,8 @@ pub fn in_body(random: &mut Random, adapter: &Adapter, request: &mut [u8]) {
     let control = word(request, header::CONTROL_CODE);
     let body = &mut request[header::SIZE..];
     match control {
-        code::SET_PHY_INFO if body.len() >= 8 => set_phy_info(random, adapter, body),
-        code::LINK_ERRORS if body.len() >= 2 => link_errors(random, adapter, body),
+        code::SET_PHY_INFO if body.len() >= info::SIZE => set_phy_info(random, adapter, body),
+        code::LINK_ERRORS if body.len() > errors::RESET => link_errors(random, adapter, body),
         code::STP_PASSTHRU if body.len() >= stp::DATA => passthrough(random, adapter, body),
         _ if !body.is_empty() => first_bytes(random, adapter, body),
         _ => {}
@@ -151,11 +155,11 @@ fn no_phy(random: &mut Random, adapter: &Adapter) -> u8 {
 
 fn set_phy_info(random: &mut Random, adapter: &Adapter, body: &mut [u8]) {
     match random.below(5) {
-        0 => body[0] = no_phy(random, adapter),
-        1 => body[1] = random.within(2, 255) as u8,
-        2 => body[2] = bad_rate(random),
-        3 => body[3] = bad_rate(random),
-        _ => body[4] = random.within(4, 255) as u8,
+        0 => body[info::PHY] = no_phy(random, adapter),
+        1 => body[info::NEGOTIATED] = random.within(2, 255) as u8,
+        2 => body[info::MINIMUM] = bad_rate(random),
+        3 => body[info::MAXIMUM] = bad_rate(random),
+        _ => body[info::SIGNAL_CLASS] = random.within(4, 255) as u8,
     }
 }
 
@@ -167,9 +171,9 @@ fn bad_rate(random: &mut Random) -> u8 {
 
 fn link_errors(random: &mut Random, adapter: &Adapter, body: &mut [u8]) {
     if random.one_in(2) {
-        body[0] = no_phy(random, adapter);
+        body[errors::PHY] = no_phy(random, adapter);
     } else {
-        body[1] = random.within(2, 255) as u8;
+        body[errors::RESET] = random.within(2, 255) as u8;
     }
 }
 
@@ -185,10 +189,10 @@ fn first_bytes(random: &mut Random, adapter: &Adapter, body: &mut [u8]) {
 
 fn passthrough(random: &mut Random, adapter: &Adapter, body: &mut [u8]) {
     match random.below(10) {
-        0 => body[stp::FIS] = random.other_than(body[stp::FIS]),
+        0 => body[stp::COMMAND_FIS] = random.other_than(body[stp::COMMAND_FIS]),
         1 => body[stp::RATE] = bad_rate(random),
         2 => body[stp::RATE] = 9,
-        3 => (body[stp::PHY], body[stp::PORT]) = (stp::NOT_GIVEN, stp::NOT_GIVEN),
+        3 => (body[stp::PHY], body[stp::PORT]) = (NOT_GIVEN, NOT_GIVEN),
         4 => body[stp::PHY] = no_phy(random, adapter),
         5 => body[stp::PORT] = random.byte(),
         6 => body[stp::PORT] = random.below(adapter.phys.len()) as u8,
@@ -196,7 +200,7 @@ fn passthrough(random: &mut Random, adapter: &Adapter, body: &mut [u8]) {
             let at = stp::DESTINATION + random.below(8);
             body[at] = random.other_than(body[at]);
         }
-        8 => body[stp::FIS + DEVICE] &= !LBA_BIT,
+        8 => body[stp::COMMAND_FIS + fis::DEVICE] &= !LBA_MODE,
         _ => data_length(random, body),
     }
 }

@@ -1,8 +1,8 @@
 //! Each control code and each return code, in the order of the checks.
 
 use super::adapter::{address, buffer, code_of, fis, medium, passthrough, return_code, sample};
-use crate::state::{entity, Phy, Row};
-use crate::{denied, request, State};
+use crate::layout::entity;
+use crate::{denied, request, Phy, Row, State};
 
 /// The return code of one request to the sample.
 fn answer(code: u32, body: &[u8]) -> u32 {
