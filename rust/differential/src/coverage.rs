@@ -12,20 +12,20 @@ use std::fmt;
 type Control = Option<u32>;
 
 #[derive(Clone, Copy, Default)]
-pub struct Command {
-    pub denied: u64,
-    pub granted: u64,
+struct Command {
+    denied: u64,
+    granted: u64,
 }
 
 pub struct Coverage {
     pub requests: u64,
-    pub openings: BTreeMap<u32, u64>,
-    pub calls: BTreeMap<u32, u64>,
+    openings: BTreeMap<u32, u64>,
+    calls: BTreeMap<u32, u64>,
     /// By control code and return code.
-    pub replies: BTreeMap<(Control, u32), u64>,
+    replies: BTreeMap<(Control, u32), u64>,
     /// By status and error of the status FIS.
-    pub disk: BTreeMap<(u8, u8), u64>,
-    pub commands: [Command; 256],
+    disk: BTreeMap<(u8, u8), u64>,
+    commands: [Command; 256],
 }
 
 impl Default for Coverage {
@@ -96,7 +96,7 @@ impl Coverage {
         *self.openings.entry(number).or_default() += 1;
     }
 
-    pub fn call(&mut self, number: u32) {
+    fn call(&mut self, number: u32) {
         *self.calls.entry(number).or_default() += 1;
     }
 

@@ -1,6 +1,7 @@
-//! Numbers and offsets of document 01 and of document 001: the model's, and what the comparison has besides.
+//! Numbers and offsets: the model's, the line of the library's record, and what the comparison has besides.
 
-pub use model::codes::{ata, device, fis_type, rate, NOT_GIVEN};
+pub use library::record;
+pub use model::codes::{ata, device, fis_type, rate, status, NOT_GIVEN};
 pub use model::layout::{
     device_address, file, fis, header, link_errors, phy_info, row, sata_signature, scsi_address,
     set_phy_info, state, stp, DISK, DRIVER_INFO, ENTITY, MAX_PHYS, MAX_ROWS, SECTOR, SECTORS,
@@ -21,13 +22,6 @@ pub mod call {
     ];
     /// Every number of a request, in a run; a call on any state knows 106 too.
     pub const REQUESTS: [u32; 3] = [DONE, BUFFER_LENGTH, STATE];
-}
-
-/// Return codes, by section 10.
-pub mod status {
-    pub use model::codes::status::*;
-    /// What the record holds where the call's number is not 0.
-    pub const NONE: u32 = 0xFFFF_FFFF;
 }
 
 /// Control codes.

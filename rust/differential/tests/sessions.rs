@@ -5,7 +5,7 @@ use differential::case::{Case, Outcome};
 use differential::compare::compare;
 use differential::coverage::Coverage;
 use differential::names::{
-    ata, call, device, header, link_errors, phy, row, status, stp, PROGRAM_LONGEST,
+    ata, call, device, header, link_errors, phy, record, row, status, stp, PROGRAM_LONGEST,
 };
 use differential::random::Random;
 use differential::request::passthrough::Passthrough;
@@ -181,7 +181,7 @@ fn the_example_of_document_01() {
         .iter()
         .map(|one| (one.number, one.code))
         .collect();
-    assert_eq!(answers, [(0, 0), (0, 4), (100, status::NONE)]);
+    assert_eq!(answers, [(0, 0), (0, 4), (100, record::NO_CODE)]);
 }
 
 /// A phy whose device knows 9 alone is set to 8 alone: each link reset fails and counts, until the counter is at its end.
@@ -336,11 +336,9 @@ fn records_of_each_length() {
     for length in 0..90 {
         case.record = (0..length as u8).collect();
         let outcome = agreed(&case);
-        assert_eq!(outcome.handled, (length / 8).min(9));
-        assert_eq!(
-            outcome.record[8 * outcome.handled..],
-            case.record[8 * outcome.handled..]
-        );
+        assert_eq!(outcome.handled, (length / record::SIZE).min(9));
+        let end = record::SIZE * outcome.handled;
+        assert_eq!(outcome.record[end..], case.record[end..]);
     }
 }
 
@@ -385,7 +383,7 @@ fn after_a_refused_opening_every_request_gets_107() {
         let exchanges = case.exchanges(&outcome);
         assert!(exchanges
             .iter()
-            .all(|exchange| exchange.number == call::STATE && exchange.code == status::NONE));
+            .all(|exchange| exchange.number == call::STATE && exchange.code == record::NO_CODE));
     }
     assert!(refused > 50, "only {refused} openings were refused");
 }

@@ -18,8 +18,7 @@ pub fn medium_length(p: u8) -> usize {
 }
 
 /// What a command moves; a range is of bytes on the disk.
-#[derive(Clone, PartialEq, Eq, Debug)]
-pub enum Transfer {
+enum Transfer {
     Nothing,
     Read(Range<usize>),
     Write(Range<usize>),
@@ -27,13 +26,12 @@ pub enum Transfer {
 }
 
 /// What a command comes to, before anything is moved.
-#[derive(Clone, PartialEq, Eq, Debug)]
 pub struct Outcome {
     pub status: u8,
     pub error: u8,
     /// Byte 12 of the status FIS.
-    pub count: u8,
-    pub transfer: Transfer,
+    count: u8,
+    transfer: Transfer,
 }
 
 impl Outcome {

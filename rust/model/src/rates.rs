@@ -8,7 +8,7 @@ pub fn is_rate(byte: u8) -> bool {
 }
 
 /// A range of rates, both ends in it.
-#[derive(Clone, Copy, PartialEq, Eq, Debug)]
+#[derive(Clone, Copy)]
 pub struct Rates {
     pub lowest: u8,
     pub highest: u8,

@@ -2,14 +2,16 @@
 //! stands for a state, and each state for one byte string.
 
 use crate::bytes::{array_at, u32_at};
-use crate::layout::state::{DRIVER_INFO, PHYS, ROWS, SIZE};
+use crate::layout::state::{DRIVER_INFO, LEVEL, PHYS, PHY_COUNT, ROWS, ROW_COUNT, SIZE};
 use crate::layout::{phy, row};
 use crate::state::{Phy, Row, State};
 
 impl State {
     pub fn from_bytes(bytes: &[u8; SIZE]) -> State {
         let mut state = State::ZERO;
-        [state.level, state.p, state.a] = array_at(bytes, 0);
+        state.level = bytes[LEVEL];
+        state.p = bytes[PHY_COUNT];
+        state.a = bytes[ROW_COUNT];
         state.driver_info = array_at(bytes, DRIVER_INFO);
         let phys = bytes[PHYS..ROWS].as_chunks().0;
         for (phy, bytes) in state.phys.iter_mut().zip(phys) {
@@ -24,7 +26,9 @@ impl State {
 
     pub fn to_bytes(&self) -> [u8; SIZE] {
         let mut bytes = [0; SIZE];
-        bytes[..DRIVER_INFO].copy_from_slice(&[self.level, self.p, self.a]);
+        bytes[LEVEL] = self.level;
+        bytes[PHY_COUNT] = self.p;
+        bytes[ROW_COUNT] = self.a;
         bytes[DRIVER_INFO..PHYS].copy_from_slice(&self.driver_info);
         let phys = bytes[PHYS..ROWS].as_chunks_mut().0;
         for (bytes, phy) in phys.iter_mut().zip(&self.phys) {
@@ -40,15 +44,14 @@ impl State {
 
 impl Phy {
     pub fn from_bytes(bytes: &[u8; phy::SIZE]) -> Phy {
-        let [held, fixed, lowest, highest] = array_at(bytes, phy::HELD);
         Phy {
             entity: array_at(bytes, 0),
             counters: [0, 4, 8, 12].map(|at| u32_at(bytes, phy::COUNTERS + at)),
             signature: array_at(bytes, phy::SIGNATURE),
-            held,
-            fixed,
-            lowest,
-            highest,
+            held: bytes[phy::HELD],
+            fixed: bytes[phy::FIXED],
+            lowest: bytes[phy::LOWEST],
+            highest: bytes[phy::HIGHEST],
         }
     }
 
@@ -60,8 +63,10 @@ impl Phy {
             *bytes = counter.to_le_bytes();
         }
         bytes[phy::SIGNATURE..phy::HELD].copy_from_slice(&self.signature);
-        let rest = [self.held, self.fixed, self.lowest, self.highest];
-        bytes[phy::HELD..].copy_from_slice(&rest);
+        bytes[phy::HELD] = self.held;
+        bytes[phy::FIXED] = self.fixed;
+        bytes[phy::LOWEST] = self.lowest;
+        bytes[phy::HIGHEST] = self.highest;
         bytes
     }
 }

@@ -12,7 +12,7 @@ pub enum Form {
 /// The bytes of an adapter, to be damaged.
 pub struct Held<'a> {
     pub adapter: &'a Adapter,
-    pub form: Form,
+    form: Form,
     pub bytes: Vec<u8>,
 }
 

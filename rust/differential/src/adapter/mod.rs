@@ -1,11 +1,9 @@
 //! Adapters, their files and their states. A sound adapter is random wherever document 01 leaves a choice.
 
-mod breaks;
 pub mod damage;
 pub mod form;
 pub mod phy;
 pub mod row;
-mod rules;
 
 use crate::names::{file, state, DISK, DRIVER_INFO, MAX_PHYS, MAX_ROWS};
 use crate::random::Random;
@@ -15,7 +13,7 @@ use row::Row;
 
 #[derive(Clone)]
 pub struct Adapter {
-    pub driver: [u8; DRIVER_INFO],
+    driver: [u8; DRIVER_INFO],
     pub phys: Vec<Phy>,
     pub rows: Vec<Row>,
 }

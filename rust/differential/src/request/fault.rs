@@ -4,8 +4,8 @@ use super::fis;
 use crate::adapter::Adapter;
 use crate::names::ata::LBA_MODE;
 use crate::names::{
-    body_size, code, header, link_errors as errors, set_phy_info as info, stp, CSMI_ALL, CSMI_SAS,
-    NOT_GIVEN, PROGRAM_LONGEST,
+    body_size, code, header, link_errors as errors, scsi_address, set_phy_info as info, stp,
+    CSMI_ALL, CSMI_SAS, NOT_GIVEN, PROGRAM_LONGEST,
 };
 use crate::random::Random;
 use crate::wire::{put_word, word};
@@ -29,6 +29,10 @@ const UNKNOWN: [u32; 16] = [
     0x8000_0019,
     u32::MAX,
 ];
+
+/// What stands before a body, and before bDataBuffer in one.
+const HEADER: u32 = header::SIZE as u32;
+const PARAMETERS: u32 = stp::DATA as u32;
 
 pub fn in_either(random: &mut Random, adapter: &Adapter, request: &mut Vec<u8>) {
     if random.one_in(2) {
@@ -94,9 +98,9 @@ fn length(random: &mut Random, request: &mut Vec<u8>) {
         size,
         inside.saturating_sub(1),
         inside + 1,
-        inside + 28,
-        u32::MAX - 27,
-        u32::MAX - 28,
+        inside + HEADER,
+        u32::MAX - HEADER + 1,
+        u32::MAX - HEADER,
         u32::MAX,
     ]);
     put_word(request, header::LENGTH, chosen);
@@ -182,7 +186,7 @@ fn first_bytes(random: &mut Random, adapter: &Adapter, body: &mut [u8]) {
     if random.one_in(2) {
         body[0] = no_phy(random, adapter);
     } else {
-        let at = random.below(body.len().min(16));
+        let at = random.below(body.len().min(scsi_address::OS));
         body[at] = random.other_than(body[at]);
     }
 }
@@ -213,11 +217,11 @@ fn data_length(random: &mut Random, body: &mut [u8]) {
         here / 2,
         here.saturating_sub(1),
         here + 1,
-        here + 28,
+        here + HEADER,
         u32::MAX,
-        u32::MAX - 135,
-        u32::MAX - 136,
-        u32::MAX - 163,
+        u32::MAX - PARAMETERS + 1,
+        u32::MAX - PARAMETERS,
+        u32::MAX - HEADER - PARAMETERS + 1,
         0x8000_0000,
     ]);
     put_word(body, stp::DATA_LENGTH, chosen);

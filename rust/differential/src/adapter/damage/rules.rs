@@ -1,8 +1,8 @@
 //! The rules of counts, fields and rows, which a file and a state keep: each broken alone.
 
 use super::breaks::*;
-use super::damage::{field, shared, Damage};
-use super::phy::Phy;
+use super::one::{field, shared, Damage};
+use crate::adapter::phy::Phy;
 use crate::names::phy::*;
 use crate::names::{row, ENTITY, MAX_PHYS, MAX_ROWS};
 

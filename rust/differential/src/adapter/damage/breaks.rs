@@ -1,8 +1,8 @@
 //! The ways in which damage changes an adapter's bytes. `None` says that the adapter has no place for it.
 
-use super::form::Held;
-use super::phy::Phy;
-use super::{check, file_length};
+use crate::adapter::form::Held;
+use crate::adapter::phy::Phy;
+use crate::adapter::{check, file_length};
 use crate::names::file::{BLOCK, CHECK, PHY_COUNT, ROWS_END, ROWS_PER_BLOCK, ROW_COUNT};
 use crate::names::phy::*;
 use crate::names::{device, rate, row, MAX_PHYS, MAX_ROWS};
@@ -111,17 +111,18 @@ pub fn bad_code(random: &mut Random, rates: u8) -> u8 {
     }
 }
 
+/// Every type that document 01 knows.
+const TYPES: [u8; 4] = [
+    device::NONE,
+    device::END,
+    device::EDGE_EXPANDER,
+    device::FANOUT_EXPANDER,
+];
+
 pub fn bad_type(random: &mut Random) -> u8 {
     loop {
         let kind = random.byte();
-        if ![
-            device::NONE,
-            device::END,
-            device::EDGE_EXPANDER,
-            device::FANOUT_EXPANDER,
-        ]
-        .contains(&kind)
-        {
+        if !TYPES.contains(&kind) {
             return kind;
         }
     }
