@@ -5,6 +5,9 @@
 mod adapter;
 mod arbitrary;
 mod codes;
+mod disk;
+mod header;
 mod layout;
 mod opening;
+mod passthrough;
 mod starred;

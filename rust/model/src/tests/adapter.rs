@@ -154,6 +154,16 @@ pub fn code_of(state: &mut State, medium: &mut [u8], buffer: &mut [u8]) -> u32 {
     code
 }
 
+/// The return code of one request to the sample.
+pub fn answer(code: u32, body: &[u8]) -> u32 {
+    answer_of(&mut sample(), &mut buffer(code, body))
+}
+
+pub fn answer_of(state: &mut State, buffer: &mut [u8]) -> u32 {
+    let mut medium = medium(state.p);
+    code_of(state, &mut medium, buffer)
+}
+
 /// A command FIS to sectors, bit 6 of byte 7 set.
 pub fn fis(command: u8, lba: u32, count: u8) -> [u8; 20] {
     let mut fis = [0; 20];
