@@ -1,5 +1,5 @@
-//! A state as the bytes that a caller lends to the two calls. Every byte is named, so every byte string of this length
-//! stands for a state, and each state for one byte string.
+//! A state as the bytes that a caller lends to the two calls. Every byte is named, so every byte
+//! string of this length stands for a state, and each state for one byte string.
 
 use crate::bytes::{array_at, u32_at};
 use crate::layout::state::{DRIVER_INFO, LEVEL, PHYS, PHY_COUNT, ROWS, ROW_COUNT, SIZE};

@@ -39,7 +39,7 @@ pub fn stp_passthrough(
     let disk = &mut medium.as_chunks_mut().0[selected];
     outcome.perform(disk, &mut data[..moved]);
 
-    // "connection OPEN_ACCEPT; status FIS ..; uSCR and reserved bytes 0; uDataBytes the bytes moved"
+    // "connection OPEN_ACCEPT; status FIS ..; uSCR and reserved bytes 0; uDataBytes .."
     parameters[at::CONNECTION_STATUS..at::STATUS_FIS].copy_from_slice(&[OPEN_ACCEPT, 0, 0, 0]);
     parameters[at::STATUS_FIS..at::SCR].copy_from_slice(&outcome.status_fis(&command));
     parameters[at::SCR..at::DATA_BYTES].fill(0);

@@ -5,13 +5,13 @@ use crate::codes::status;
 use crate::layout::{phy_info, sata_signature as at, DRIVER_INFO};
 use crate::state::State;
 
-/// "1 ..: fill Information".
+/// "1, 20: fill Information".
 pub fn driver_info(state: &State, information: &mut [u8; DRIVER_INFO]) -> Result<u32, u32> {
     *information = state.driver_info;
     Ok(status::SUCCESS)
 }
 
-/// "20: fill Information; phys from p on and reserved bytes of the phy count's word are zero";
+/// "1, 20: fill Information; phys from p on and reserved bytes of the phy count's word are zero";
 /// the state's phys are.
 pub fn get_phy_info(state: &State, information: &mut [u8; phy_info::SIZE]) -> Result<u32, u32> {
     let (count, entities) = information.split_at_mut(phy_info::PHYS);
