@@ -29,7 +29,7 @@ fn attach(mut phy: Phy, device_type: u8, target_protocols: u8, lowest: u8, highe
     let n = phy.entity[entity::PHY_IDENTIFIER];
     phy.entity[entity::ATTACHED] = device_type;
     phy.entity[entity::ATTACHED_TARGET_PROTOCOLS] = target_protocols;
-    phy.entity[entity::ATTACHED_SAS_ADDRESS..][..8].copy_from_slice(&address(n));
+    phy.entity[48..56].copy_from_slice(&address(n));
     phy.lowest = lowest;
     phy.highest = highest;
     phy.entity[entity::NEGOTIATED] = highest;
