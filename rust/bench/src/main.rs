@@ -9,6 +9,7 @@ mod measure;
 mod workload;
 
 use aims::{Aims, Ratios};
+use differential::names::{MAX_PHYS, MAX_ROWS};
 use measure::{Copies, Times, MEASURED};
 use std::process::ExitCode;
 use std::time::Duration;
@@ -112,7 +113,7 @@ fn count(side: &str, session: &str, p: &str, a: &str, times: &str) -> Option<()>
     let (_, side) = MEASURED.into_iter().find(|(name, _)| *name == side)?;
     let (p, a) = (p.parse().ok()?, a.parse().ok()?);
     let times: usize = times.parse().ok()?;
-    if !(1..=32).contains(&p) || a > 64 {
+    if !(1..=MAX_PHYS).contains(&p) || a > MAX_ROWS {
         return None;
     }
     let case = workload::case(workload::kind(session)?, p, a, COUNTED);

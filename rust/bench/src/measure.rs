@@ -113,7 +113,7 @@ pub fn checked(kind: Kind, p: usize, a: usize, requests: usize) -> Case {
     let exchanges = case.exchanges(&outcome);
     assert!(exchanges
         .iter()
-        .all(|exchange| exchange.number == call::ACCEPTED));
+        .all(|exchange| exchange.number == call::DONE));
     assert!(a == 0 || exchanges.iter().all(need::granted));
     case
 }

@@ -3,7 +3,7 @@
 use differential::adapter::phy::Phy;
 use differential::adapter::Adapter;
 use differential::case::Case;
-use differential::names::{code, phy, stp};
+use differential::names::{ata, code, device, phy, ENTITY, SECTORS};
 use differential::random::Random;
 use differential::request::passthrough::Passthrough;
 use differential::request::{self, fis};
@@ -23,9 +23,9 @@ pub const SESSIONS: [(&str, Kind); 12] = [
     ("phy-info", Kind::Code(code::PHY_INFO)),
     ("set-phy-info", Kind::Code(code::SET_PHY_INFO)),
     ("link-errors", Kind::Code(code::LINK_ERRORS)),
-    ("read", Kind::Command(stp::READ)),
-    ("write", Kind::Command(stp::WRITE)),
-    ("identify", Kind::Command(stp::IDENTIFY)),
+    ("read", Kind::Command(ata::READ_SECTORS)),
+    ("write", Kind::Command(ata::WRITE_SECTORS)),
+    ("identify", Kind::Command(ata::IDENTIFY_DEVICE)),
     ("signature", Kind::Code(code::SATA_SIGNATURE)),
     ("scsi-address", Kind::Code(code::SCSI_ADDRESS)),
     ("device-address", Kind::Code(code::DEVICE_ADDRESS)),
@@ -65,9 +65,9 @@ fn connected(random: &mut Random, p: usize, a: usize) -> Adapter {
 
 fn connect(random: &mut Random, phy: &mut Phy) {
     let bytes = &mut phy.bytes;
-    random.fill(&mut bytes[phy::ATTACHED..phy::ENTITY_SIZE]);
-    bytes[phy::ATTACHED_TYPE] = phy::END_DEVICE;
-    bytes[phy::ATTACHED_PROTOCOLS] |= 1;
+    random.fill(&mut bytes[phy::ATTACHED..ENTITY]);
+    bytes[phy::ATTACHED] = device::END;
+    bytes[phy::ATTACHED_TARGET_PROTOCOLS] |= 1;
     (bytes[phy::MINIMUM], bytes[phy::MAXIMUM]) = (0x88, 0x99);
     (bytes[phy::LOWEST], bytes[phy::HIGHEST]) = (8, 9);
     bytes[phy::NEGOTIATED] = 9;
@@ -101,7 +101,7 @@ fn set_phy_info(random: &mut Random, adapter: &Adapter) -> Vec<u8> {
 
 /// One sector, anywhere on the disk, at a rate that every link has.
 fn passthrough(random: &mut Random, adapter: &Adapter, command: u8) -> Vec<u8> {
-    let lba = random.below(16) as u32;
+    let lba = random.below(SECTORS) as u32;
     let fis = fis::command(random, command, lba, 1);
     let mut passthrough = Passthrough::of_fis(random, adapter, fis);
     passthrough.rate = 8;

@@ -1,5 +1,6 @@
 //! A case: everything that a run gets, and everything that it gives.
 
+use crate::names::record;
 use crate::session;
 use crate::wire::word;
 
@@ -48,7 +49,7 @@ impl Case {
             file: file.to_vec(),
             medium: medium.to_vec(),
             session: session::join(requests),
-            record: vec![0x5A; 8 * requests.len()],
+            record: vec![0x5A; record::SIZE * requests.len()],
         }
     }
 
@@ -57,13 +58,13 @@ impl Case {
         let requests = session::split(&self.session, outcome.handled);
         let replies = session::split(&outcome.session, outcome.handled);
         let pairs = requests.into_iter().zip(replies);
-        let records = outcome.record.chunks_exact(8);
+        let lines = outcome.record.chunks_exact(record::SIZE);
         pairs
-            .zip(records)
-            .map(|((request, reply), record)| Exchange {
+            .zip(lines)
+            .map(|((request, reply), line)| Exchange {
                 request,
-                number: word(record, 0),
-                code: word(record, 4),
+                number: word(line, record::NUMBER),
+                code: word(line, record::CODE),
                 reply,
             })
             .collect()

@@ -1,6 +1,7 @@
 //! How often each number, return code and command was met; and which of those that document 01 knows were not.
 
 use crate::case::{Case, Exchange, Outcome};
+use crate::names::ata::*;
 use crate::names::{body_size, call, code, header, status, stp};
 use crate::need;
 use crate::request::fis;
@@ -11,20 +12,20 @@ use std::fmt;
 type Control = Option<u32>;
 
 #[derive(Clone, Copy, Default)]
-pub struct Command {
-    pub denied: u64,
-    pub granted: u64,
+struct Command {
+    denied: u64,
+    granted: u64,
 }
 
 pub struct Coverage {
     pub requests: u64,
-    pub openings: BTreeMap<u32, u64>,
-    pub calls: BTreeMap<u32, u64>,
+    openings: BTreeMap<u32, u64>,
+    calls: BTreeMap<u32, u64>,
     /// By control code and return code.
-    pub replies: BTreeMap<(Control, u32), u64>,
+    replies: BTreeMap<(Control, u32), u64>,
     /// By status and error of the status FIS.
-    pub disk: BTreeMap<(u8, u8), u64>,
-    pub commands: [Command; 256],
+    disk: BTreeMap<(u8, u8), u64>,
+    commands: [Command; 256],
 }
 
 impl Default for Coverage {
@@ -41,7 +42,11 @@ impl Default for Coverage {
 }
 
 /// Every answer of the disk: success, command aborted, past the last sector.
-const DISK: [(u8, u8); 3] = [(0x50, 0x00), (0x51, 0x04), (0x51, 0x10)];
+const DISK: [(u8, u8); 3] = [
+    (STATUS_GOOD, 0),
+    (STATUS_ERROR, ERROR_ABORT),
+    (STATUS_ERROR, ERROR_PAST_END),
+];
 
 /// The return codes that a known code has, besides success, a bad signature, a bad length and the denial.
 fn own_codes(control: u32) -> &'static [u32] {
@@ -91,7 +96,7 @@ impl Coverage {
         *self.openings.entry(number).or_default() += 1;
     }
 
-    pub fn call(&mut self, number: u32) {
+    fn call(&mut self, number: u32) {
         *self.calls.entry(number).or_default() += 1;
     }
 
@@ -101,7 +106,7 @@ impl Coverage {
         for exchange in case.exchanges(outcome) {
             self.requests += 1;
             self.call(exchange.number);
-            if exchange.number == call::ACCEPTED {
+            if exchange.number == call::DONE {
                 self.reply(&exchange);
             }
         }
@@ -121,12 +126,13 @@ impl Coverage {
         if !granted && exchange.code != status::WRITE_ATTEMPTED {
             return;
         }
-        let command = exchange.request[header::SIZE + stp::FIS + fis::COMMAND];
+        let command = exchange.request[header::SIZE + stp::COMMAND_FIS + fis::COMMAND];
         let met = &mut self.commands[usize::from(command)];
         if granted {
             met.granted += 1;
             let answer = &exchange.reply[header::SIZE + stp::STATUS_FIS..];
-            *self.disk.entry((answer[2], answer[3])).or_default() += 1;
+            let answer = (answer[fis::STATUS], answer[fis::ERROR]);
+            *self.disk.entry(answer).or_default() += 1;
         } else {
             met.denied += 1;
         }

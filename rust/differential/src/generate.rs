@@ -4,6 +4,7 @@ use crate::adapter::form::Form;
 use crate::adapter::{damage, Adapter};
 use crate::case::Case;
 use crate::medium;
+use crate::names::record;
 use crate::random::Random;
 use crate::request;
 use crate::session;
@@ -94,9 +95,10 @@ pub fn case(seed: u64, most: usize) -> Case {
 
 /// Mostly enough for every request, and bytes to spare; sometimes short.
 fn record_length(random: &mut Random, count: usize) -> usize {
+    let enough = record::SIZE * count;
     match random.below(8) {
-        0 => random.below(8 * count + 1),
-        1 => 8 * count,
-        _ => 8 * count + random.within(1, 20),
+        0 => random.below(enough + 1),
+        1 => enough,
+        _ => enough + random.within(1, 20),
     }
 }

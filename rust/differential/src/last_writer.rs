@@ -1,9 +1,10 @@
 //! "The last writer": by the file, the medium at the start, the requests as sent and their replies alone, what every sector and
 //! every programmed rate is after a run.
 
-use crate::adapter::phy_at;
 use crate::case::{Case, Exchange, Outcome};
-use crate::names::{call, code, header, phy, state, stp, DISK, SECTOR};
+use crate::names::{
+    ata, call, code, file, header, phy, set_phy_info as at, state, stp, DISK, NOT_GIVEN, SECTOR,
+};
 use crate::need;
 use crate::request::fis;
 use crate::wire::first_difference;
@@ -20,8 +21,8 @@ impl Written {
     pub fn after(file: &[u8], medium: &[u8], exchanges: &[Exchange]) -> Self {
         let mut written = Written {
             medium: medium.to_vec(),
-            rates: (0..usize::from(file[0]))
-                .map(|n| programmed(&file[phy_at(n)..]))
+            rates: (0..usize::from(file[file::PHY_COUNT]))
+                .map(|n| programmed(&file[file::phy_at(n)..]))
                 .collect(),
         };
         for exchange in exchanges.iter().filter(|exchange| need::granted(exchange)) {
@@ -36,9 +37,9 @@ impl Written {
 
     fn passthrough(&mut self, file: &[u8], exchange: &Exchange) {
         let body = &exchange.request[header::SIZE..];
-        let command = &body[stp::FIS..stp::FLAGS];
-        let status = exchange.reply[header::SIZE + stp::STATUS_FIS + 2];
-        if command[fis::COMMAND] != stp::WRITE || status != 0x50 {
+        let command = &body[stp::COMMAND_FIS..stp::FLAGS];
+        let status = exchange.reply[header::SIZE + stp::STATUS_FIS + fis::STATUS];
+        if command[fis::COMMAND] != ata::WRITE_SECTORS || status != ata::STATUS_GOOD {
             return;
         }
         let length = SECTOR * fis::sectors(command);
@@ -48,23 +49,23 @@ impl Written {
 
     fn set_phy_info(&mut self, exchange: &Exchange) {
         let body = &exchange.request[header::SIZE..];
-        let rates = &mut self.rates[usize::from(body[0])];
-        if body[2] != 0 {
-            rates.0 = body[2];
+        let rates = &mut self.rates[usize::from(body[at::PHY])];
+        if body[at::MINIMUM] != 0 {
+            rates.0 = body[at::MINIMUM];
         }
-        if body[3] != 0 {
-            rates.1 = body[3];
+        if body[at::MAXIMUM] != 0 {
+            rates.1 = body[at::MAXIMUM];
         }
     }
 }
 
 /// The phy that a passthrough selects: its phy, or the lowest of its port.
 fn selected(file: &[u8], body: &[u8]) -> usize {
-    if body[stp::PHY] != stp::NOT_GIVEN {
+    if body[stp::PHY] != NOT_GIVEN {
         return usize::from(body[stp::PHY]);
     }
-    let mut phys = 0..usize::from(file[0]);
-    phys.find(|&n| file[phy_at(n) + phy::PORT] == body[stp::PORT])
+    let mut phys = 0..usize::from(file[file::PHY_COUNT]);
+    phys.find(|&n| file[file::phy_at(n) + phy::PORT_IDENTIFIER] == body[stp::PORT])
         .expect("a granted passthrough selects a phy")
 }
 
@@ -76,7 +77,7 @@ fn programmed(entity: &[u8]) -> (u8, u8) {
 /// The medium after a run, and the programmed rates of its state where the side shows it, are what the last writers left. After a refused
 /// opening the medium is what it was, and the state is zero. Gives the number of phys whose rates were compared.
 pub fn check(case: &Case, outcome: &Outcome) -> Result<usize, String> {
-    if outcome.opening != call::ACCEPTED {
+    if outcome.opening != call::DONE {
         return check_refused(case, outcome);
     }
     let written = Written::after(&case.file, &case.medium, &case.exchanges(outcome));

@@ -28,7 +28,7 @@ fn of_command(command: u8) -> u8 {
 fn of_request(request: &[u8]) -> u8 {
     match control(request) {
         code::SET_PHY_INFO => FULL,
-        code::STP_PASSTHRU => of_command(request[header::SIZE + stp::FIS + fis::COMMAND]),
+        code::STP_PASSTHRU => of_command(request[header::SIZE + stp::COMMAND_FIS + fis::COMMAND]),
         _ => RESTRICTED,
     }
 }
@@ -66,6 +66,6 @@ fn data_length(request: &[u8]) -> usize {
 
 /// Granted: the call's number is 0 and the return code says success, or that the phy info has changed.
 pub fn granted(exchange: &Exchange) -> bool {
-    exchange.number == call::ACCEPTED
+    exchange.number == call::DONE
         && [status::SUCCESS, status::PHY_INFO_CHANGED].contains(&exchange.code)
 }

@@ -72,7 +72,7 @@ impl Pair {
         equal_numbers(library.number, model.number)?;
         equal_bytes("buffer", &library.buffer, &model.buffer)?;
         self.equal_bytes()?;
-        if library.number != call::ACCEPTED {
+        if library.number != call::DONE {
             untouched("buffer", request, &library.buffer)?;
             untouched("state", &before, &self.library.state)?;
         }

@@ -1,7 +1,7 @@
 //! The implementations behind the same functions: an opening, a request, and a run.
 
 use crate::case::{Case, Outcome};
-use crate::names::{call, header, state, status};
+use crate::names::{call, header, record, state};
 use crate::session;
 use crate::wire::{put_word, word};
 use model::State;
@@ -165,15 +165,15 @@ fn each_request(
 ) -> usize {
     let mut at = 0;
     let mut handled = 0;
-    for entry in record.chunks_exact_mut(8) {
+    for line in record.chunks_exact_mut(record::SIZE) {
         let Some(place) = session::next(session, at) else {
             break;
         };
         at = place.end;
         let buffer = &mut session[place];
         let number = handle(buffer);
-        put_word(entry, 0, number);
-        put_word(entry, 4, return_code(number, buffer));
+        put_word(line, record::NUMBER, number);
+        put_word(line, record::CODE, return_code(number, buffer));
         handled += 1;
     }
     handled
@@ -181,9 +181,9 @@ fn each_request(
 
 /// What the record holds of a reply.
 pub fn return_code(number: u32, buffer: &[u8]) -> u32 {
-    if number == call::ACCEPTED {
+    if number == call::DONE {
         word(buffer, header::RETURN_CODE)
     } else {
-        status::NONE
+        record::NO_CODE
     }
 }

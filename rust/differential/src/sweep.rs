@@ -50,7 +50,7 @@ impl Sweep {
         self.openings += 1;
         let number = pair.open(b"CSMI=Restricted;", file)?;
         self.coverage.opening(number);
-        self.accepted += u64::from(number == call::ACCEPTED);
+        self.accepted += u64::from(number == call::DONE);
         Ok(())
     }
 }

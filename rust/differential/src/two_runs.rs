@@ -53,7 +53,7 @@ impl Run {
     }
 
     fn accepted(&self) -> bool {
-        self.outcome.opening == call::ACCEPTED
+        self.outcome.opening == call::DONE
     }
 }
 
@@ -99,7 +99,7 @@ fn but_level(bytes: &[u8]) -> &[u8] {
 pub fn only_return_code(exchange: &Exchange) -> Result<(), String> {
     let mut expected = exchange.request.to_vec();
     put_word(&mut expected, header::RETURN_CODE, status::WRITE_ATTEMPTED);
-    let right = exchange.number == call::ACCEPTED && exchange.reply == expected;
+    let right = exchange.number == call::DONE && exchange.reply == expected;
     right
         .then_some(())
         .ok_or_else(|| "a denied request gets more than its return code".to_string())
@@ -135,7 +135,7 @@ impl Caller {
 
     /// The level stays the run's own; after a refused opening it is 0.
     fn keeps(&self, level: &Level) -> bool {
-        let own = if self.opening == call::ACCEPTED {
+        let own = if self.opening == call::DONE {
             level.number
         } else {
             0
@@ -148,7 +148,7 @@ impl Caller {
 pub fn check_each(side: Side, start: &Start, low: &Level, high: &Level) -> Result<(), String> {
     let mut lower = Caller::open(side, start, low);
     let mut higher = Caller::open(side, start, high);
-    let accepted = lower.opening == call::ACCEPTED;
+    let accepted = lower.opening == call::DONE;
     for (n, request) in start.requests.iter().enumerate() {
         let reply = lower.request(request);
         let denied = accepted && need::denied(low.number, request);
@@ -171,7 +171,7 @@ pub fn check_denied(start: &Start, level: &Level) -> Result<(), String> {
     let (number, mut state) = model::open(&level.text, start.file, start.medium);
     let mut medium = start.medium.to_vec();
     for (n, request) in start.requests.iter().enumerate() {
-        let denied = number == call::ACCEPTED && need::denied(level.number, request);
+        let denied = number == call::DONE && need::denied(level.number, request);
         if model::denied(&state, &medium, request) != denied {
             return Err(format!("request {}: the model's denied", n + 1));
         }

@@ -4,7 +4,8 @@ use differential::adapter::damage::{self, Damage};
 use differential::adapter::form::Form;
 use differential::adapter::{seal, Adapter};
 use differential::generate;
-use differential::names::{call, state};
+use differential::names::file::{BLOCK, CHECK, PHY_COUNT, ROW_COUNT};
+use differential::names::{call, file, phy, row, state, DISK};
 use differential::pair::Pair;
 use differential::random::Random;
 use differential::side::{Side, CALLS};
@@ -18,7 +19,7 @@ fn assert_number(what: &str, number: u32, text: &[u8], file: &[u8], medium: &[u8
         assert_eq!(given, number, "{what}, {side:?}");
         assert_eq!(
             state == [0; state::SIZE],
-            number != call::ACCEPTED,
+            number != call::DONE,
             "{what}, {side:?}"
         );
     }
@@ -54,7 +55,7 @@ fn sound_files_of_every_size_open() {
             let level = random.pick(&text::LEVELS);
             let text = text::of_level(random, level);
             let (number, state) = opened("sound", &text, &adapter.file(), &medium);
-            assert_eq!(number, call::ACCEPTED);
+            assert_eq!(number, call::DONE);
             assert_eq!(state, adapter.state(level), "p {p}, a {a}");
         }
     }
@@ -90,7 +91,9 @@ fn an_opening_does_not_look_at_the_state() {
 #[test]
 fn a_state_of_another_length_is_107_before_all() {
     let random = &mut Random::new(10);
-    for length in [0, 1, 3, 4784, 4786, 4787, 4096, 8192, 2 * state::SIZE] {
+    let near = [state::SIZE - 1, state::SIZE + 1, state::SIZE + 2];
+    let others = [0, 1, 3, 4096, 8192, 2 * state::SIZE];
+    for length in [&near[..], &others].concat() {
         for round in 0..6 {
             let adapter = Adapter::sound(random);
             let opening = if round % 2 == 0 {
@@ -159,23 +162,30 @@ fn the_text_comes_first_and_the_medium_last() {
 /// The first of two damages in the order of the opening's checks decides.
 #[test]
 fn checks_come_before_fields_and_fields_before_rows() {
+    const UNNAMED: usize = ROW_COUNT + 2;
     let random = &mut Random::new(5);
     for _ in 0..200 {
         let adapter = Adapter::of_counts(random, 3, 30);
         let medium = vec![0; adapter.medium_length()];
         let mut file = adapter.file();
-        let (phy, first, second) = (512 * 3, 512 * 4, 512 * 5);
-        file.copy_within(first..first + 16, second);
+        let (last_phy, first, second) = (file::phy_at(2), 4 * BLOCK, 5 * BLOCK);
+        file.copy_within(first..first + row::OS, second);
         seal(&mut file);
         assert_number("rows", call::SHARED_ROW, b"", &file, &medium);
-        file[3] = 1;
+        file[UNNAMED] = 1;
         seal(&mut file);
-        assert_number("unnamed byte and rows", call::FIELD, b"", &file, &medium);
-        file[3] = 0;
-        file[phy + 101] = 2;
+        assert_number(
+            "unnamed byte and rows",
+            call::COUNT_OR_FIELD,
+            b"",
+            &file,
+            &medium,
+        );
+        file[UNNAMED] = 0;
+        file[last_phy + phy::FIXED] = 2;
         seal(&mut file);
-        assert_number("field and rows", call::FIELD, b"", &file, &medium);
-        file[second + 508] ^= 1;
+        assert_number("field and rows", call::COUNT_OR_FIELD, b"", &file, &medium);
+        file[second + CHECK] ^= 1;
         assert_number(
             "check, field and rows",
             call::BLOCK_CHECK,
@@ -183,12 +193,12 @@ fn checks_come_before_fields_and_fields_before_rows() {
             &file,
             &medium,
         );
-        file.truncate(512 * 5);
+        file.truncate(second);
         assert_number("length and all", call::FILE_LENGTH, b"", &file, &medium);
-        file[0] = 33;
+        file[PHY_COUNT] = 33;
         seal(&mut file);
-        assert_number("count and all", call::FIELD, b"", &file, &medium);
-        file[3] ^= 1;
+        assert_number("count and all", call::COUNT_OR_FIELD, b"", &file, &medium);
+        file[UNNAMED] ^= 1;
         assert_number(
             "block 0's check and all",
             call::BLOCK_CHECK,
@@ -196,7 +206,7 @@ fn checks_come_before_fields_and_fields_before_rows() {
             &file,
             &medium,
         );
-        file.truncate(511);
+        file.truncate(BLOCK - 1);
         assert_number("under one block", call::FILE_LENGTH, b"", &file, &medium);
     }
 }
@@ -207,7 +217,7 @@ fn any_two_rows_that_share_are_105() {
     let adapter = Adapter::of_counts(&mut Random::new(11), 1, 64);
     let medium = vec![0; adapter.medium_length()];
     for (one, other) in (0..64).flat_map(|one| (0..one).map(move |other| (one, other))) {
-        for shared in [0..16, 16..20] {
+        for shared in [0..row::OS, row::OS..row::SIZE] {
             let mut changed = adapter.clone();
             let bytes = adapter.rows[other][shared.clone()].to_vec();
             changed.rows[one][shared].copy_from_slice(&bytes);
@@ -221,12 +231,12 @@ fn any_two_rows_that_share_are_105() {
 fn texts_are_answered_alike() {
     let random = &mut Random::new(6);
     let file = Adapter::of_counts(random, 1, 0).file();
-    let medium = vec![0; 8192];
+    let medium = vec![0; DISK];
     for round in 0..6000 {
         let level = text::LEVELS[round % 4];
         assert_number(
             "text",
-            call::ACCEPTED,
+            call::DONE,
             &text::of_level(random, level),
             &file,
             &medium,
@@ -250,7 +260,7 @@ fn thousands_of_damaged_openings_are_answered_alike() {
             &opening.file,
             &opening.medium,
         );
-        refused += usize::from(number != call::ACCEPTED);
+        refused += usize::from(number != call::DONE);
     }
     assert!(refused > 3600, "only {refused} openings were refused");
 }

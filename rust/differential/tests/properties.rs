@@ -140,7 +140,7 @@ fn after_a_refused_opening_the_medium_stays_and_the_state_is_zero() {
         );
         for side in SIDES {
             let outcome = side.run(&case);
-            if outcome.opening != call::ACCEPTED {
+            if outcome.opening != call::DONE {
                 refused += 1;
                 let state = outcome.state.as_ref();
                 assert!(

@@ -4,7 +4,9 @@ use differential::adapter::Adapter;
 use differential::case::{Case, Outcome};
 use differential::compare::compare;
 use differential::coverage::Coverage;
-use differential::names::{call, header, phy, status, stp, PROGRAM_LONGEST};
+use differential::names::{
+    ata, call, device, header, link_errors, phy, record, row, status, stp, PROGRAM_LONGEST,
+};
 use differential::random::Random;
 use differential::request::passthrough::Passthrough;
 use differential::request::{self, fis};
@@ -96,7 +98,11 @@ fn each_code_and_length_agrees() {
             let short = request.len() < header::SIZE;
             assert_eq!(
                 exchange.number,
-                if short { call::BUFFER } else { call::ACCEPTED }
+                if short {
+                    call::BUFFER_LENGTH
+                } else {
+                    call::DONE
+                }
             );
             let cut = !short && request.len() < sound.len();
             assert!(!cut || exchange.code == status::INVALID_PARAMETER);
@@ -140,7 +146,7 @@ fn small_request(random: &mut Random, adapter: &Adapter, control: u32) -> Vec<u8
     if control != names::code::STP_PASSTHRU {
         return request::sound(random, adapter, control);
     }
-    let fis = fis::command(random, stp::WRITE, 3, 1);
+    let fis = fis::command(random, ata::WRITE_SECTORS, 3, 1);
     let body = Passthrough::of_fis(random, adapter, fis).body(random);
     request::buffer(control, &body)
 }
@@ -151,7 +157,7 @@ fn every_value_of_each_body_byte_agrees() {
     let adapter = Adapter::of_counts(random, 5, 6);
     for control in names::code::ALL {
         let sound = small_request(random, &adapter, control);
-        let end = sound.len().min(header::SIZE + 48);
+        let end = sound.len().min(header::SIZE + stp::STATUS_FIS);
         assert!(header::SIZE < end);
         every_value_agrees(random, &adapter, &sound, header::SIZE..end);
     }
@@ -175,25 +181,27 @@ fn the_example_of_document_01() {
         .iter()
         .map(|one| (one.number, one.code))
         .collect();
-    assert_eq!(answers, [(0, 0), (0, 4), (100, status::NONE)]);
+    assert_eq!(answers, [(0, 0), (0, 4), (100, record::NO_CODE)]);
 }
 
 /// A phy whose device knows 9 alone is set to 8 alone: each link reset fails and counts, until the counter is at its end.
 #[test]
 fn failed_link_resets_count_up_to_the_end() {
+    /// The phy reset problem counter, the fourth of 32 bits.
+    const PROBLEM: usize = 12;
     let mut adapter = Adapter::of_counts(&mut Random::new(15), 1, 0);
     let bytes = &mut adapter.phys[0].bytes;
     (bytes[phy::MINIMUM], bytes[phy::MAXIMUM]) = (0x88, 0x99);
     (
-        bytes[phy::ATTACHED_TYPE],
+        bytes[phy::ATTACHED],
         bytes[phy::LOWEST],
         bytes[phy::HIGHEST],
-    ) = (phy::END_DEVICE, 9, 9);
+    ) = (device::END, 9, 9);
     (bytes[phy::NEGOTIATED], bytes[phy::HELD], bytes[phy::FIXED]) = (9, 0, 0);
     bytes[phy::SIGNATURE..phy::HELD].fill(0);
-    put_word(bytes, phy::COUNTERS + 12, u32::MAX - 2);
+    put_word(bytes, phy::COUNTERS + PROBLEM, u32::MAX - 2);
     let slow = request::buffer(names::code::SET_PHY_INFO, &[0, 0, 0, 8, 0, 0, 0, 0]);
-    let errors = request::buffer(names::code::LINK_ERRORS, &[0; 20]);
+    let errors = request::buffer(names::code::LINK_ERRORS, &[0; link_errors::SIZE]);
     let requests: Vec<Vec<u8>> = (0..4)
         .flat_map(|_| [slow.clone(), errors.clone()])
         .collect();
@@ -203,7 +211,7 @@ fn failed_link_resets_count_up_to_the_end() {
     let exchanges = case.exchanges(&outcome);
     let counters = exchanges.iter().skip(1).step_by(2);
     let problems: Vec<u32> = counters
-        .map(|one| word(one.reply, header::SIZE + 16))
+        .map(|one| word(one.reply, header::SIZE + link_errors::COUNTERS + PROBLEM))
         .collect();
     assert_eq!(problems, [u32::MAX - 1, u32::MAX, u32::MAX, u32::MAX]);
 }
@@ -212,9 +220,9 @@ fn failed_link_resets_count_up_to_the_end() {
 #[test]
 fn a_row_of_zeros_is_found() {
     let mut adapter = Adapter::of_counts(&mut Random::new(16), 1, 3);
-    adapter.rows[1] = [0; names::ROW_SIZE];
+    adapter.rows[1] = [0; row::SIZE];
     let requests = [names::code::SCSI_ADDRESS, names::code::DEVICE_ADDRESS]
-        .map(|control| request::buffer(control, &[0; 20]));
+        .map(|control| request::buffer(control, &[0; row::SIZE]));
     let medium = vec![0; adapter.medium_length()];
     let case = Case::of_requests(16, b"", &adapter.file(), &medium, &requests);
     let outcome = agreed(&case);
@@ -297,8 +305,14 @@ fn long_data_buffers_agree() {
     let random = &mut Random::new(25);
     let adapter = Adapter::of_counts(random, 8, 0);
     let mut requests = Vec::new();
-    for data in [8_192, 32_768 - 164, 32_768 - 163, 70_000, 300_000] {
-        for command in [stp::READ, stp::WRITE, stp::IDENTIFY, stp::CHECK_POWER] {
+    let fitting = PROGRAM_LONGEST - header::SIZE - stp::DATA;
+    for data in [names::DISK, fitting, fitting + 1, 70_000, 300_000] {
+        for command in [
+            ata::READ_SECTORS,
+            ata::WRITE_SECTORS,
+            ata::IDENTIFY_DEVICE,
+            ata::CHECK_POWER_MODE,
+        ] {
             let fis = fis::command(random, command, 0, 16);
             let mut passthrough = Passthrough::of_fis(random, &adapter, fis);
             passthrough.data = random.bytes(data);
@@ -322,11 +336,9 @@ fn records_of_each_length() {
     for length in 0..90 {
         case.record = (0..length as u8).collect();
         let outcome = agreed(&case);
-        assert_eq!(outcome.handled, (length / 8).min(9));
-        assert_eq!(
-            outcome.record[8 * outcome.handled..],
-            case.record[8 * outcome.handled..]
-        );
+        assert_eq!(outcome.handled, (length / record::SIZE).min(9));
+        let end = record::SIZE * outcome.handled;
+        assert_eq!(outcome.record[end..], case.record[end..]);
     }
 }
 
@@ -362,7 +374,7 @@ fn after_a_refused_opening_every_request_gets_107() {
         );
         case.session.extend(join(&[vec![1, 2, 3]])); // one more than the record has room for
         let outcome = agreed(&case);
-        if outcome.opening == call::ACCEPTED {
+        if outcome.opening == call::DONE {
             continue;
         }
         refused += 1;
@@ -371,7 +383,7 @@ fn after_a_refused_opening_every_request_gets_107() {
         let exchanges = case.exchanges(&outcome);
         assert!(exchanges
             .iter()
-            .all(|exchange| exchange.number == call::STATE && exchange.code == status::NONE));
+            .all(|exchange| exchange.number == call::STATE && exchange.code == record::NO_CODE));
     }
     assert!(refused > 50, "only {refused} openings were refused");
 }

@@ -3,7 +3,7 @@
 use differential::adapter::damage::{self, Damage};
 use differential::adapter::form::Form;
 use differential::adapter::Adapter;
-use differential::names::{call, header, state, status, DISK};
+use differential::names::{call, header, row, state, status, DISK};
 use differential::pair::{Pair, Reply};
 use differential::random::Random;
 use differential::side::{Side, CALLS};
@@ -63,7 +63,7 @@ fn sound_states_of_every_size_and_level_answer() {
                     _ => status::SUCCESS,
                 };
                 let code = word(&reply.buffer, header::RETURN_CODE);
-                assert_eq!((reply.number, code), (call::ACCEPTED, expected), "{what}");
+                assert_eq!((reply.number, code), (call::DONE, expected), "{what}");
                 for request in generate::requests(random, &adapter, 6) {
                     let number = agreed(&what, &mut pair, &request).number;
                     assert_ne!(number, call::STATE, "{what}");
@@ -115,7 +115,10 @@ fn a_state_of_another_length_is_107() {
     let adapter = Adapter::of_counts(random, 3, 5);
     let sound = adapter.state(text::FULL);
     let medium = random.bytes(adapter.medium_length());
-    for length in [0, 1, 3, 177, 3505, 4784, 4786, 4787, 8192, 2 * state::SIZE] {
+    let ends = [state::DRIVER_INFO, state::PHYS, state::ROWS];
+    let near = [state::SIZE - 1, state::SIZE + 1, state::SIZE + 2];
+    let others = [0, 1, 8192, 2 * state::SIZE];
+    for length in [&ends[..], &near, &others].concat() {
         let mut state = sound.clone();
         state.resize(length, 0);
         for request in some_requests(random, &adapter) {
@@ -180,7 +183,7 @@ fn the_state_comes_before_the_medium_and_the_medium_before_the_buffer() {
             assert_refused("all three", call::STATE, &state, &wrong, &short);
             assert_refused("state and buffer", call::STATE, &state, &right, &short);
             assert_refused("medium", call::MEDIUM_LENGTH, &sound, &wrong, &short);
-            assert_refused("buffer", call::BUFFER, &sound, &right, &short);
+            assert_refused("buffer", call::BUFFER_LENGTH, &sound, &right, &short);
         }
     }
 }
@@ -205,7 +208,7 @@ fn any_two_rows_that_share_are_107() {
     let medium = vec![0; adapter.medium_length()];
     let sound = adapter.state(text::FULL);
     for (one, other) in (0..64).flat_map(|one| (0..one).map(move |other| (one, other))) {
-        for shared in [0..16, 16..20] {
+        for shared in [0..row::OS, row::OS..row::SIZE] {
             let mut state = sound.clone();
             let from = state::row_at(other);
             let bytes = from + shared.start..from + shared.end;
@@ -225,8 +228,8 @@ fn states_of_any_kind_are_answered_alike() {
     assert_eq!(
         met,
         [
-            call::ACCEPTED,
-            call::BUFFER,
+            call::DONE,
+            call::BUFFER_LENGTH,
             call::MEDIUM_LENGTH,
             call::STATE
         ]

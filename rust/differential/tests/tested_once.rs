@@ -15,7 +15,7 @@ fn random_runs_agree_with_the_model() {
         let model = Side::Model.run(&case);
         assert!(Side::ModelTestedOnce.run(&case) == model, "seed {seed}");
         requests += model.handled;
-        refused += usize::from(model.opening != call::ACCEPTED && model.handled > 0);
+        refused += usize::from(model.opening != call::DONE && model.handled > 0);
     }
     assert!(requests > 4_000, "only {requests} requests");
     assert!(refused > 20, "only {refused} runs after a refused opening");
@@ -29,7 +29,7 @@ fn states_agree_and_keep_the_rules() {
         let adapter = Adapter::sound(random);
         let opening = generate::sound_opening(random, &adapter);
         let (number, mut state) = model::open(&opening.text, &opening.file, &opening.medium);
-        assert_eq!(number, call::ACCEPTED);
+        assert_eq!(number, call::DONE);
         let (mut other, mut medium) = (state.clone(), opening.medium);
         let mut other_medium = medium.clone();
         for request in generate::requests(random, &adapter, 100) {

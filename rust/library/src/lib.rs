@@ -3,6 +3,17 @@
 /// The bytes of a state; `include/ascheknopf.h` says what each is.
 pub const STATE_SIZE: usize = 4785;
 
+/// A line of the record that `run` writes: two numbers of 32 bits.
+pub mod record {
+    /// The call's number.
+    pub const NUMBER: usize = 0;
+    /// The return code.
+    pub const CODE: usize = 4;
+    pub const SIZE: usize = 8;
+    /// The return code in the line of a request that got none.
+    pub const NO_CODE: u32 = 0xFFFF_FFFF;
+}
+
 mod interface {
     extern "C" {
         pub fn ascheknopf_open(
@@ -74,8 +85,8 @@ pub fn request(state: &mut [u8], medium: &mut [u8], buffer: &mut [u8]) -> u32 {
     }
 }
 
-/// Opens, and handles the requests of a session in place; 8 bytes of the record for each: the call's number and the return
-/// code. Gives the number of requests handled.
+/// Opens, and handles the requests of a session in place, with a line of the record for each. Gives the number of requests
+/// handled.
 pub fn run(
     text: &[u8],
     file: &[u8],

@@ -1,8 +1,13 @@
 //! Small inputs whose answers document 01 gives at a glance. Whole adapters are compared in `rust/differential`.
 
 use super::*;
+use model::codes::control;
+use model::layout::file::{self, BLOCK, CHECK};
+use model::layout::{entity, header, set_phy_info, state as at, DISK};
 
 const OTHER: u8 = 0x5A;
+/// The rates of the phy: minimum and maximum, programmed and hardware.
+const RATES: [u8; 2] = [0x88, 0x99];
 
 /// The number of an opening without file and medium, and the state that it leaves, which was full of other bytes.
 fn opened(text: &[u8]) -> (u32, [u8; STATE_SIZE]) {
@@ -11,28 +16,34 @@ fn opened(text: &[u8]) -> (u32, [u8; STATE_SIZE]) {
 }
 
 /// A file of one phy without device and no rows.
-fn file() -> [u8; 1024] {
-    let mut file = [0; 1024];
-    file[0] = 1;
+fn file() -> [u8; 2 * BLOCK] {
+    let mut file = [0; 2 * BLOCK];
+    let (first, second) = file.split_at_mut(BLOCK);
+    first[file::PHY_COUNT] = 1;
+    second[entity::MINIMUM..=entity::MAXIMUM].copy_from_slice(&RATES);
     // each check: the words that are not 0, the block's number, and 1
-    file[508..512].copy_from_slice(&(1u32 + 1).to_le_bytes());
-    (file[512 + 30], file[512 + 31]) = (0x88, 0x99);
-    file[1020..].copy_from_slice(&(0x9988_0000u32 + 1 + 1).to_le_bytes());
+    first[CHECK..].copy_from_slice(&(1u32 + 1).to_le_bytes());
+    second[CHECK..].copy_from_slice(&(0x9988_0000u32 + 1 + 1).to_le_bytes());
     file
 }
 
 /// The file's state at a level.
 fn state(level: u8) -> [u8; STATE_SIZE] {
     let mut state = [0; STATE_SIZE];
-    (state[0], state[1]) = (level, 1);
-    (state[177 + 30], state[177 + 31]) = (0x88, 0x99);
+    (state[at::LEVEL], state[at::PHY_COUNT]) = (level, 1);
+    phy(&mut state)[entity::MINIMUM..=entity::MAXIMUM].copy_from_slice(&RATES);
     state
+}
+
+/// The bytes from its phy on.
+fn phy(state: &mut [u8; STATE_SIZE]) -> &mut [u8] {
+    &mut state[at::PHYS..]
 }
 
 #[test]
 fn an_opening_writes_the_whole_state() {
     let mut held = [OTHER; STATE_SIZE];
-    assert_eq!(open(b"CSMI=Full;", &file(), &[0; 8192], &mut held), 0);
+    assert_eq!(open(b"CSMI=Full;", &file(), &[0; DISK], &mut held), 0);
     assert_eq!(held, state(3));
 }
 
@@ -50,42 +61,48 @@ fn a_wrong_text_is_101_and_leaves_the_zero_state() {
 fn a_state_of_another_length_is_107_and_stays() {
     for length in [0, 1, STATE_SIZE - 1, STATE_SIZE + 1, 2 * STATE_SIZE] {
         let mut held = vec![OTHER; length];
-        let (mut medium, mut buffer) = ([0; 8192], [OTHER; 40]);
+        let (mut medium, mut buffer) = ([0; DISK], [OTHER; 40]);
         assert_eq!(open(b"", &file(), &medium, &mut held), 107);
         assert_eq!(open(b"CSMI=full;", &[], &[], &mut held), 107);
         assert_eq!(request(&mut held, &mut medium, &mut buffer), 107);
         assert_eq!(request(&mut held, &mut [], &mut []), 107);
         assert_eq!(held, vec![OTHER; length]);
-        assert!(medium == [0; 8192] && buffer == [OTHER; 40]);
+        assert!(medium == [0; DISK] && buffer == [OTHER; 40]);
     }
 }
 
 #[test]
 fn the_numbers_of_a_request_in_their_order() {
-    let (mut held, mut medium) = (state(4), [0; 8192]);
+    let (mut held, mut medium) = (state(4), [0; DISK]);
     assert_eq!(request(&mut held, &mut [], &mut []), 107);
     held = state(3);
     assert_eq!(request(&mut held, &mut medium[1..], &mut []), 106);
-    assert_eq!(request(&mut held, &mut medium, &mut [OTHER; 27]), 100);
-    let mut buffer = [0; 28];
+    assert_eq!(
+        request(&mut held, &mut medium, &mut [OTHER; header::SIZE - 1]),
+        100
+    );
+    let mut buffer = [0; header::SIZE];
     assert_eq!(request(&mut held, &mut medium, &mut buffer), 0);
     // HeaderLength is 0, which is return code 3
-    assert_eq!((buffer[20], held), (3, state(3)));
+    assert_eq!((buffer[header::RETURN_CODE], held), (3, state(3)));
 }
 
 #[test]
 fn a_request_changes_the_state_in_place() {
-    let (mut held, mut medium) = (state(3), [0; 8192]);
-    let mut buffer = [0; 36];
-    buffer[0] = 28;
-    buffer[4..11].copy_from_slice(b"CSMISAS");
-    (buffer[16], buffer[24]) = (21, 8);
-    buffer[28..33].copy_from_slice(&[0, 1, 9, 9, 2]); // phy 0 disabled, 3.0 Gb/s alone, class 2
+    let (mut held, mut medium) = (state(3), [0; DISK]);
+    let mut buffer = [0; header::SIZE + set_phy_info::SIZE];
+    buffer[header::HEADER_LENGTH] = header::SIZE as u8;
+    buffer[header::SIGNATURE..header::TIMEOUT].copy_from_slice(b"CSMISAS\0");
+    buffer[header::CONTROL_CODE] = control::SET_PHY_INFO as u8;
+    buffer[header::LENGTH] = set_phy_info::SIZE as u8;
+    // phy 0 disabled, 3.0 Gb/s alone, class 2
+    buffer[header::SIZE..][..5].copy_from_slice(&[0, 1, 9, 9, 2]);
     assert_eq!(request(&mut held, &mut medium, &mut buffer), 0);
     let mut expected = state(3);
-    expected[177 + 21] = 2;
-    expected[177 + 29..177 + 32].copy_from_slice(&[1, 0x98, 0x99]);
-    assert_eq!((&buffer[20..24], held), (&[0; 4][..], expected));
+    phy(&mut expected)[entity::SIGNAL_CLASS] = 2;
+    phy(&mut expected)[entity::NEGOTIATED..=entity::MAXIMUM].copy_from_slice(&[1, 0x98, 0x99]);
+    let code = &buffer[header::RETURN_CODE..header::LENGTH];
+    assert_eq!((code, held), (&[0; 4][..], expected));
 }
 
 #[test]

@@ -1,4 +1,16 @@
-//! Every number that a call or a return code answers with, each said once.
+//! Codes, each said once. Section 10 of the source decides where it gives a number.
+
+/// Control codes.
+pub mod control {
+    pub const DRIVER_INFO: u32 = 1;
+    pub const PHY_INFO: u32 = 20;
+    pub const SET_PHY_INFO: u32 = 21;
+    pub const LINK_ERRORS: u32 = 22;
+    pub const STP_PASSTHRU: u32 = 25;
+    pub const SATA_SIGNATURE: u32 = 26;
+    pub const SCSI_ADDRESS: u32 = 27;
+    pub const DEVICE_ADDRESS: u32 = 28;
+}
 
 /// The call's own number.
 pub mod call {
@@ -13,8 +25,8 @@ pub mod call {
     pub const STATE: u32 = 107;
 }
 
-/// The return code in bytes 20 to 23. Section 10 of the source decides: from "changed" on, each
-/// is one lower than document 01 prints it.
+/// The return code in bytes 20 to 23: from "changed" on, each is one lower than document 01
+/// prints it.
 pub mod status {
     pub const SUCCESS: u32 = 0;
     pub const BAD_CNTL_CODE: u32 = 2;
@@ -32,4 +44,46 @@ pub mod status {
     pub const NO_SATA_SIGNATURE: u32 = 2010;
     pub const NO_SCSI_ADDRESS: u32 = 2013;
     pub const NO_DEVICE_ADDRESS: u32 = 2014;
+}
+
+/// Attached device types.
+pub mod device {
+    pub const NONE: u8 = 0x00;
+    pub const END: u8 = 0x10;
+    pub const EDGE_EXPANDER: u8 = 0x20;
+    pub const FANOUT_EXPANDER: u8 = 0x30;
+}
+
+/// "Rate codes are 8 (1.5 Gb/s) and 9 (3.0)"; negotiated may be one that is no rate.
+pub mod rate {
+    pub const UNKNOWN: u8 = 0;
+    pub const DISABLED: u8 = 1;
+    pub const FAILED: u8 = 2;
+    pub const G_1_5: u8 = 8;
+    pub const G_3_0: u8 = 9;
+}
+
+/// A phy or port identifier of code 25 that is not given.
+pub const NOT_GIVEN: u8 = 0xFF;
+
+/// The types of a FIS, its byte 0.
+pub mod fis_type {
+    pub const COMMAND: u8 = 0x27;
+    pub const STATUS: u8 = 0x34;
+}
+
+/// The commands that the disk knows, and its answers.
+pub mod ata {
+    pub const READ_SECTORS: u8 = 0x20;
+    pub const WRITE_SECTORS: u8 = 0x30;
+    pub const CHECK_POWER_MODE: u8 = 0xE5;
+    pub const IDENTIFY_DEVICE: u8 = 0xEC;
+
+    /// Bit 6 of the device byte, which sector commands need.
+    pub const LBA_MODE: u8 = 0x40;
+
+    pub const STATUS_GOOD: u8 = 0x50;
+    pub const STATUS_ERROR: u8 = 0x51;
+    pub const ERROR_ABORT: u8 = 0x04;
+    pub const ERROR_PAST_END: u8 = 0x10;
 }

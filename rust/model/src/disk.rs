@@ -1,32 +1,16 @@
 //! One phy's disk: 16 sectors, and the ATA commands it knows.
 
+use crate::codes::ata::*;
+use crate::codes::fis_type;
+use crate::layout::fis::{COMMAND, COUNT, DEVICE, LBA, SIZE};
+use crate::layout::{DISK, SECTOR, SECTORS};
 use std::ops::Range;
 
-pub const SECTOR: usize = 512;
-pub const SECTORS: u32 = 16;
-pub const DISK: usize = 8192;
+/// A command or status FIS.
+pub type Fis = [u8; SIZE];
 
-/// Bytes of a command or status FIS.
-pub const FIS: usize = 20;
-pub const COMMAND_FIS: u8 = 0x27;
-pub const STATUS_FIS: u8 = 0x34;
-
-pub const READ_SECTORS: u8 = 0x20;
-pub const WRITE_SECTORS: u8 = 0x30;
-pub const IDENTIFY_DEVICE: u8 = 0xEC;
-pub const CHECK_POWER_MODE: u8 = 0xE5;
-
-pub const STATUS_GOOD: u8 = 0x50;
-pub const STATUS_ERROR: u8 = 0x51;
-pub const ERROR_ABORT: u8 = 0x04;
-pub const ERROR_PAST_END: u8 = 0x10;
-
+/// "FFh in byte 12": the disk is active.
 const ACTIVE: u8 = 0xFF;
-const LBA_MODE: u8 = 0x40;
-/// Offsets in a FIS.
-const COMMAND: usize = 2;
-const DEVICE: usize = 7;
-const COUNT: usize = 12;
 
 /// "medium length 8,192 × p".
 pub fn medium_length(p: u8) -> usize {
@@ -34,8 +18,7 @@ pub fn medium_length(p: u8) -> usize {
 }
 
 /// What a command moves; a range is of bytes on the disk.
-#[derive(Clone, PartialEq, Eq, Debug)]
-pub enum Transfer {
+enum Transfer {
     Nothing,
     Read(Range<usize>),
     Write(Range<usize>),
@@ -43,18 +26,17 @@ pub enum Transfer {
 }
 
 /// What a command comes to, before anything is moved.
-#[derive(Clone, PartialEq, Eq, Debug)]
 pub struct Outcome {
     pub status: u8,
     pub error: u8,
     /// Byte 12 of the status FIS.
-    pub count: u8,
-    pub transfer: Transfer,
+    count: u8,
+    transfer: Transfer,
 }
 
 impl Outcome {
     /// The outcome of a command FIS. It depends on no byte of the disk.
-    pub fn of(fis: &[u8; FIS]) -> Outcome {
+    pub fn of(fis: &Fis) -> Outcome {
         match fis[COMMAND] {
             READ_SECTORS => Outcome::of_sectors(fis, Transfer::Read),
             WRITE_SECTORS => Outcome::of_sectors(fis, Transfer::Write),
@@ -64,21 +46,22 @@ impl Outcome {
         }
     }
 
-    fn of_sectors(fis: &[u8; FIS], transfer: fn(Range<usize>) -> Transfer) -> Outcome {
+    fn of_sectors(fis: &Fis, transfer: fn(Range<usize>) -> Transfer) -> Outcome {
         if fis[DEVICE] & LBA_MODE == 0 {
             return Outcome::failure(fis, ERROR_ABORT);
         }
-        let lba = u32::from_le_bytes([fis[4], fis[5], fis[6], fis[DEVICE] & 0x0F]);
+        let lba = [fis[LBA], fis[LBA + 1], fis[LBA + 2], fis[DEVICE] & 0x0F];
+        let lba = u32::from_le_bytes(lba) as usize;
         // "count byte 12, where 0 means 256"
         let count = match fis[COUNT] {
             0 => 256,
-            count => u32::from(count),
+            count => usize::from(count),
         };
         if lba + count > SECTORS {
             return Outcome::failure(fis, ERROR_PAST_END);
         }
-        let start = lba as usize * SECTOR;
-        Outcome::success(fis[COUNT], transfer(start..start + count as usize * SECTOR))
+        let range = lba * SECTOR..(lba + count) * SECTOR;
+        Outcome::success(fis[COUNT], transfer(range))
     }
 
     fn success(count: u8, transfer: Transfer) -> Outcome {
@@ -90,7 +73,7 @@ impl Outcome {
         }
     }
 
-    fn failure(fis: &[u8; FIS], error: u8) -> Outcome {
+    fn failure(fis: &Fis, error: u8) -> Outcome {
         Outcome {
             status: STATUS_ERROR,
             error,
@@ -110,9 +93,9 @@ impl Outcome {
 
     /// "status FIS 34h, 0, status, error, bytes 4–13 of the command FIS (byte 12 as above),
     /// then 0".
-    pub fn status_fis(&self, fis: &[u8; FIS]) -> [u8; FIS] {
-        let mut reply = [0; FIS];
-        reply[..4].copy_from_slice(&[STATUS_FIS, 0, self.status, self.error]);
+    pub fn status_fis(&self, fis: &Fis) -> Fis {
+        let mut reply = [0; SIZE];
+        reply[..4].copy_from_slice(&[fis_type::STATUS, 0, self.status, self.error]);
         reply[4..14].copy_from_slice(&fis[4..14]);
         reply[COUNT] = self.count;
         reply

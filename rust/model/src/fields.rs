@@ -1,9 +1,11 @@
 //! The rules of counts, fields and rows: an opening holds the file to them, a request its state.
 
 use crate::bytes::all_zero;
+use crate::codes::{device, rate};
+use crate::layout::{entity, MAX_PHYS, MAX_ROWS};
 use crate::level::Level;
 use crate::link;
-use crate::state::{device, entity, Phy, Row, State, MAX_PHYS, MAX_ROWS};
+use crate::state::{Phy, Row, State};
 
 pub const MAX_CLASS: u8 = 3;
 
@@ -31,7 +33,7 @@ fn phy_is_sound(phy: &Phy, n: u8, p: u8) -> bool {
         && rates_are_sound(phy)
         && attached_is_sound(phy)
         && signature_is_sound(phy)
-        && (phy.negotiated() == link::DISABLED || phy.negotiated() == link::rule_of(phy))
+        && (phy.negotiated() == rate::DISABLED || phy.negotiated() == link::rule_of(phy))
 }
 
 /// "hardware minimum ≤ programmed minimum ≤ programmed maximum ≤ hardware maximum".

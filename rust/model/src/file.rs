@@ -4,19 +4,12 @@ use crate::bytes::{all_zero, array_at, u32_at};
 use crate::codes::call;
 use crate::disk;
 use crate::fields;
-use crate::layout::{PHY_SIZE, ROW_SIZE};
+use crate::layout::file::{
+    BLOCK, CHECK, DRIVER_INFO, DRIVER_INFO_END, PHY_COUNT, ROWS_END, ROWS_PER_BLOCK, ROW_COUNT,
+};
+use crate::layout::{phy, row};
 use crate::level::Level;
 use crate::state::{Phy, Row, State};
-
-pub const BLOCK: usize = 512;
-/// The check's place: the last four bytes of a block.
-pub const CHECK: usize = 508;
-pub const ROWS_PER_BLOCK: usize = 25;
-
-const DRIVER_INFO_AT: usize = 4;
-const DRIVER_INFO_END: usize = 178;
-/// Where the rows of a row block end.
-const ROWS_END: usize = ROW_SIZE * ROWS_PER_BLOCK;
 
 /// Opens an adapter: the call's number, and the state.
 pub fn open(text: &[u8], file: &[u8], medium: &[u8]) -> (u32, State) {
@@ -34,7 +27,7 @@ fn checked(text: &[u8], file: &[u8], medium: &[u8]) -> Result<State, u32> {
     if !is_intact(first, 0) {
         return Err(call::BLOCK_CHECK);
     }
-    let (p, a) = (first[0], first[1]);
+    let (p, a) = (first[PHY_COUNT], first[ROW_COUNT]);
     if !fields::counts_are_sound(p, a) {
         return Err(call::COUNT_OR_FIELD);
     }
@@ -88,9 +81,9 @@ fn held_by(
 ) -> State {
     let mut state = State::ZERO;
     state.level = level as u8;
-    state.p = first[0];
-    state.a = first[1];
-    state.driver_info = array_at(first, DRIVER_INFO_AT);
+    state.p = first[PHY_COUNT];
+    state.a = first[ROW_COUNT];
+    state.driver_info = array_at(first, DRIVER_INFO);
     for (phy, block) in state.phys.iter_mut().zip(phy_blocks) {
         *phy = Phy::from_bytes(named(block));
     }
@@ -102,15 +95,15 @@ fn held_by(
 }
 
 /// The bytes of a phy's block that are named.
-fn named(block: &[u8; BLOCK]) -> &[u8; PHY_SIZE] {
+fn named(block: &[u8; BLOCK]) -> &[u8; phy::SIZE] {
     block.first_chunk().expect("a block is longer")
 }
 
 /// The places for rows, used or not.
-fn rows_in(row_blocks: &[[u8; BLOCK]]) -> impl Iterator<Item = &[u8; ROW_SIZE]> {
+fn rows_in(row_blocks: &[[u8; BLOCK]]) -> impl Iterator<Item = &[u8; row::SIZE]> {
     row_blocks
         .iter()
-        .flat_map(|block| block[..ROWS_END].as_chunks::<ROW_SIZE>().0)
+        .flat_map(|block| block[..ROWS_END].as_chunks().0)
 }
 
 /// "Bytes not named, and bytes past the last row, are 0."
@@ -119,15 +112,15 @@ fn unnamed_are_zero(
     phy_blocks: &[[u8; BLOCK]],
     row_blocks: &[[u8; BLOCK]],
 ) -> bool {
-    all_zero(&first[2..DRIVER_INFO_AT])
+    all_zero(&first[ROW_COUNT + 1..DRIVER_INFO])
         && all_zero(&first[DRIVER_INFO_END..CHECK])
         && phy_blocks
             .iter()
-            .all(|block| all_zero(&block[PHY_SIZE..CHECK]))
+            .all(|block| all_zero(&block[phy::SIZE..CHECK]))
         && row_blocks
             .iter()
             .all(|block| all_zero(&block[ROWS_END..CHECK]))
         && rows_in(row_blocks)
-            .skip(usize::from(first[1]))
+            .skip(usize::from(first[ROW_COUNT]))
             .all(|bytes| all_zero(bytes))
 }

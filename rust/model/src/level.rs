@@ -1,7 +1,7 @@
 //! The level text, and the need of each ATA command.
 
 /// "None 0, Restricted 1, Limited 2, Full 3."
-#[derive(Clone, Copy, PartialEq, Eq, PartialOrd, Ord, Debug)]
+#[derive(Clone, Copy, PartialEq, Eq, Debug)]
 #[repr(u8)]
 pub enum Level {
     None = 0,
@@ -10,7 +10,7 @@ pub enum Level {
     Full = 3,
 }
 
-pub const MAX_TEXT: usize = 1024;
+const MAX_TEXT: usize = 1024;
 
 impl Level {
     /// The level of a text; `None` is number 101.

@@ -3,26 +3,27 @@
 //!
 //! Two calls: [`open`] an adapter, and handle one [`request`]; the latter also in its two parts,
 //! [`tested`] and [`answer`]. The modules follow the document's parts, each resting on the ones
-//! before it: level, link, fields, file, disk, request. `layout` gives the state as bytes.
+//! before it: level, rates, state, link, fields, disk, file, request. `codes` and `layout` hold
+//! the numbers and the offsets; `state_bytes` gives the state as bytes.
 
 #![forbid(unsafe_code)]
 
 mod bytes;
 pub mod codes;
-pub mod disk;
-pub mod fields;
-pub mod file;
+mod disk;
+mod fields;
+mod file;
 pub mod layout;
-pub mod level;
-pub mod link;
-pub mod request;
-pub mod state;
+mod level;
+mod link;
+mod rates;
+mod request;
+mod state;
+mod state_bytes;
 
 #[cfg(test)]
 mod tests;
 
 pub use file::{block_check, open};
-pub use layout::STATE_SIZE;
-pub use link::{link_rule, Rates};
 pub use request::{answer, denied, request, tested};
 pub use state::{Phy, Row, State};

@@ -1,33 +1,9 @@
 //! What an adapter remembers between calls.
 
-use crate::link::Rates;
-
-pub const MAX_PHYS: usize = 32;
-pub const MAX_ROWS: usize = 64;
-pub const DRIVER_INFO: usize = 174;
-pub const ENTITY: usize = 64;
-
-/// Offsets in a PHY_ENTITY (6.7.4.2).
-pub mod entity {
-    pub const PHY_IDENTIFIER: usize = 20;
-    pub const SIGNAL_CLASS: usize = 21;
-    pub const PORT_IDENTIFIER: usize = 28;
-    pub const NEGOTIATED: usize = 29;
-    pub const MINIMUM: usize = 30;
-    pub const MAXIMUM: usize = 31;
-    /// The 28 Attached bytes run from here to the end; the first is the device type.
-    pub const ATTACHED: usize = 36;
-    pub const ATTACHED_TARGET_PROTOCOLS: usize = 39;
-    pub const ATTACHED_SAS_ADDRESS: usize = 48;
-}
-
-/// Attached device types.
-pub mod device {
-    pub const NONE: u8 = 0x00;
-    pub const END: u8 = 0x10;
-    pub const EDGE_EXPANDER: u8 = 0x20;
-    pub const FANOUT_EXPANDER: u8 = 0x30;
-}
+use crate::bytes::array_at;
+use crate::codes::device;
+use crate::layout::{entity, fis, DRIVER_INFO, ENTITY, MAX_PHYS, MAX_ROWS};
+use crate::rates::Rates;
 
 /// Index of the phy reset problem counter in the order of 6.9: invalid dword, running disparity,
 /// loss of dword sync, phy reset problem.
@@ -48,7 +24,7 @@ pub struct Phy {
     /// The PHY_ENTITY as the file holds it.
     pub entity: [u8; ENTITY],
     pub counters: [u32; 4],
-    pub signature: [u8; 20],
+    pub signature: [u8; fis::SIZE],
     /// Signature held, 0 or 1.
     pub held: u8,
     /// Fixed, 0 or 1.
@@ -96,7 +72,7 @@ impl Phy {
     pub const ZERO: Phy = Phy {
         entity: [0; ENTITY],
         counters: [0; 4],
-        signature: [0; 20],
+        signature: [0; fis::SIZE],
         held: 0,
         fixed: 0,
         lowest: 0,
@@ -120,8 +96,8 @@ impl Phy {
         &self.entity[entity::ATTACHED..]
     }
 
-    pub fn attached_sas_address(&self) -> &[u8] {
-        &self.entity[entity::ATTACHED_SAS_ADDRESS..entity::ATTACHED_SAS_ADDRESS + 8]
+    pub fn attached_sas_address(&self) -> [u8; 8] {
+        array_at(&self.entity, entity::ATTACHED_SAS_ADDRESS)
     }
 
     /// "A SATA phy has type 10h and bit 0 of its attached target protocols set."

@@ -1,9 +1,13 @@
 //! The starred cases and the worked example of document 01, every number and every return code,
-//! the state as bytes, and a walk over arbitrary inputs.
+//! the state as bytes, and a walk over arbitrary inputs. What is expected stands here in the
+//! document's own numbers, which holds `codes` and `layout` to it.
 
 mod adapter;
 mod arbitrary;
 mod codes;
+mod disk;
+mod header;
 mod layout;
 mod opening;
+mod passthrough;
 mod starred;

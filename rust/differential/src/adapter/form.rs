@@ -1,7 +1,7 @@
 //! An adapter's two forms in bytes: its file, and a state. The same rules hold of both.
 
-use super::{phy_at, row_at, Adapter};
-use crate::names::state;
+use super::{row_at, Adapter};
+use crate::names::{file, state};
 
 #[derive(Clone, Copy, PartialEq, Eq, Debug)]
 pub enum Form {
@@ -12,7 +12,7 @@ pub enum Form {
 /// The bytes of an adapter, to be damaged.
 pub struct Held<'a> {
     pub adapter: &'a Adapter,
-    pub form: Form,
+    form: Form,
     pub bytes: Vec<u8>,
 }
 
@@ -44,7 +44,7 @@ impl<'a> Held<'a> {
     /// Where p stands.
     pub fn phy_count(&self) -> usize {
         match self.form {
-            Form::File => 0,
+            Form::File => file::PHY_COUNT,
             Form::State => state::PHY_COUNT,
         }
     }
@@ -52,7 +52,7 @@ impl<'a> Held<'a> {
     /// Where a stands.
     pub fn row_count(&self) -> usize {
         match self.form {
-            Form::File => 1,
+            Form::File => file::ROW_COUNT,
             Form::State => state::ROW_COUNT,
         }
     }
@@ -60,7 +60,7 @@ impl<'a> Held<'a> {
     /// Where phy n starts.
     pub fn phy(&self, n: usize) -> usize {
         match self.form {
-            Form::File => phy_at(n),
+            Form::File => file::phy_at(n),
             Form::State => state::phy_at(n),
         }
     }

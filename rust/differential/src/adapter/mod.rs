@@ -1,21 +1,19 @@
 //! Adapters, their files and their states. A sound adapter is random wherever document 01 leaves a choice.
 
-mod breaks;
 pub mod damage;
 pub mod form;
 pub mod phy;
 pub mod row;
-mod rules;
 
-use crate::names::{state, BLOCK, DISK, DRIVER_SIZE, ROW_SIZE};
+use crate::names::{file, state, DISK, DRIVER_INFO, MAX_PHYS, MAX_ROWS};
 use crate::random::Random;
-pub use labkit::adapter::{check, file_length, row_at, seal, CHECK_AT, MOST_PHYS, MOST_ROWS};
+pub use labkit::adapter::{check, file_length, row_at, seal};
 use phy::Phy;
 use row::Row;
 
 #[derive(Clone)]
 pub struct Adapter {
-    pub driver: [u8; DRIVER_SIZE],
+    driver: [u8; DRIVER_INFO],
     pub phys: Vec<Phy>,
     pub rows: Vec<Row>,
 }
@@ -24,13 +22,13 @@ impl Adapter {
     /// A sound adapter; often a small one.
     pub fn sound(random: &mut Random) -> Self {
         let p = match random.below(4) {
-            0 => random.within(1, MOST_PHYS),
-            1 => random.pick(&[1, MOST_PHYS]),
+            0 => random.within(1, MAX_PHYS),
+            1 => random.pick(&[1, MAX_PHYS]),
             _ => random.within(1, 8),
         };
         let a = match random.below(4) {
-            0 => random.within(0, MOST_ROWS),
-            1 => random.pick(&[0, 24, 25, 26, 50, 51, MOST_ROWS]),
+            0 => random.within(0, MAX_ROWS),
+            1 => random.pick(&[0, 24, 25, 26, 50, 51, MAX_ROWS]),
             _ => random.within(0, 12),
         };
         Self::of_counts(random, p, a)
@@ -52,20 +50,18 @@ impl Adapter {
 
     /// The adapter file, with its checks.
     pub fn file(&self) -> Vec<u8> {
-        let mut file = vec![0; file_length(self.phys.len(), self.rows.len())];
-        file[0] = self.phys.len() as u8;
-        file[1] = self.rows.len() as u8;
-        file[4..4 + DRIVER_SIZE].copy_from_slice(&self.driver);
+        let mut bytes = vec![0; file_length(self.phys.len(), self.rows.len())];
+        bytes[file::PHY_COUNT] = self.phys.len() as u8;
+        bytes[file::ROW_COUNT] = self.rows.len() as u8;
+        bytes[file::DRIVER_INFO..file::DRIVER_INFO_END].copy_from_slice(&self.driver);
         for (n, phy) in self.phys.iter().enumerate() {
-            let at = phy_at(n);
-            file[at..at + phy.bytes.len()].copy_from_slice(&phy.bytes);
+            put(&mut bytes, file::phy_at(n), &phy.bytes);
         }
-        for (n, row) in self.rows.iter().enumerate() {
-            let at = row_at(self.phys.len(), n);
-            file[at..at + ROW_SIZE].copy_from_slice(row);
+        for (i, row) in self.rows.iter().enumerate() {
+            put(&mut bytes, row_at(self.phys.len(), i), row);
         }
-        seal(&mut file);
-        file
+        seal(&mut bytes);
+        bytes
     }
 
     /// The state that an opening of the file gives at this level.
@@ -74,22 +70,19 @@ impl Adapter {
         bytes[state::LEVEL] = level;
         bytes[state::PHY_COUNT] = self.phys.len() as u8;
         bytes[state::ROW_COUNT] = self.rows.len() as u8;
-        bytes[state::DRIVER..state::PHYS].copy_from_slice(&self.driver);
+        bytes[state::DRIVER_INFO..state::PHYS].copy_from_slice(&self.driver);
         for (n, phy) in self.phys.iter().enumerate() {
-            let at = state::phy_at(n);
-            bytes[at..at + phy.bytes.len()].copy_from_slice(&phy.bytes);
+            put(&mut bytes, state::phy_at(n), &phy.bytes);
         }
         for (i, row) in self.rows.iter().enumerate() {
-            let at = state::row_at(i);
-            bytes[at..at + ROW_SIZE].copy_from_slice(row);
+            put(&mut bytes, state::row_at(i), row);
         }
         bytes
     }
 }
 
-/// Where the block of phy n starts in a file.
-pub fn phy_at(n: usize) -> usize {
-    (1 + n) * BLOCK
+fn put(bytes: &mut [u8], at: usize, part: &[u8]) {
+    bytes[at..at + part.len()].copy_from_slice(part);
 }
 
 #[cfg(test)]
@@ -100,7 +93,7 @@ mod tests {
     fn the_model_agrees_on_the_check() {
         let mut random = Random::new(1);
         for number in 0..200 {
-            let block: [u8; BLOCK] = random.array();
+            let block: [u8; file::BLOCK] = random.array();
             let expected = model::block_check(&block, number as u32);
             assert_eq!(check(&block, number), expected);
         }

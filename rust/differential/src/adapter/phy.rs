@@ -1,6 +1,7 @@
 //! A phy of an adapter: the bytes of its block that document 01 names.
 
 use crate::names::phy::*;
+use crate::names::{device, rate, ENTITY};
 use crate::random::Random;
 use crate::wire::put_word;
 
@@ -38,9 +39,9 @@ impl Phy {
         let mut phy = Phy {
             bytes: random.array(),
         };
-        phy.bytes[IDENTIFIER] = n as u8;
-        phy.bytes[CLASS] = random.below(4) as u8;
-        phy.bytes[PORT] = match random.below(3) {
+        phy.bytes[PHY_IDENTIFIER] = n as u8;
+        phy.bytes[SIGNAL_CLASS] = random.below(4) as u8;
+        phy.bytes[PORT_IDENTIFIER] = match random.below(3) {
             0 => n,
             1 => n / 2,
             _ => random.below(p),
@@ -51,7 +52,7 @@ impl Phy {
         let device = random.pick(&DEVICES);
         phy.attach(random, device);
         phy.bytes[NEGOTIATED] = if random.one_in(8) {
-            DISABLED
+            rate::DISABLED
         } else {
             phy.link()
         };
@@ -81,18 +82,18 @@ impl Phy {
     }
 
     fn attach(&mut self, random: &mut Random, device: Device) {
-        let protocols = self.bytes[ATTACHED_PROTOCOLS];
+        let protocols = self.bytes[ATTACHED_TARGET_PROTOCOLS];
         match device {
             Device::None => {
-                self.bytes[ATTACHED..ENTITY_SIZE].fill(0);
+                self.bytes[ATTACHED..ENTITY].fill(0);
                 self.set_device_rates((0, 0));
                 self.hold(None);
                 return;
             }
-            Device::Sata => self.set_device(END_DEVICE, protocols | 1),
-            Device::Sas => self.set_device(END_DEVICE, protocols & !1),
-            Device::Edge => self.set_device(EDGE, protocols),
-            Device::Fanout => self.set_device(FANOUT, protocols),
+            Device::Sata => self.set_device(device::END, protocols | 1),
+            Device::Sas => self.set_device(device::END, protocols & !1),
+            Device::Edge => self.set_device(device::EDGE_EXPANDER, protocols),
+            Device::Fanout => self.set_device(device::FANOUT_EXPANDER, protocols),
         }
         self.set_device_rates(random.pick(&[(8, 9), (8, 9), (8, 9), (8, 8), (9, 9)]));
         let signature = (device == Device::Sata && !random.one_in(4)).then(|| random.array());
@@ -100,8 +101,8 @@ impl Phy {
     }
 
     fn set_device(&mut self, kind: u8, protocols: u8) {
-        self.bytes[ATTACHED_TYPE] = kind;
-        self.bytes[ATTACHED_PROTOCOLS] = protocols;
+        self.bytes[ATTACHED] = kind;
+        self.bytes[ATTACHED_TARGET_PROTOCOLS] = protocols;
     }
 
     fn set_device_rates(&mut self, rates: (u8, u8)) {
@@ -116,7 +117,7 @@ impl Phy {
     }
 
     pub fn port(&self) -> u8 {
-        self.bytes[PORT]
+        self.bytes[PORT_IDENTIFIER]
     }
 
     pub fn negotiated(&self) -> u8 {
@@ -125,16 +126,16 @@ impl Phy {
 
     pub fn attached_address(&self) -> [u8; 8] {
         let mut address = [0; 8];
-        address.copy_from_slice(&self.bytes[ATTACHED_ADDRESS..ATTACHED_ADDRESS + 8]);
+        address.copy_from_slice(&self.bytes[ATTACHED_SAS_ADDRESS..ATTACHED_SAS_ADDRESS + 8]);
         address
     }
 
     pub fn has_device(&self) -> bool {
-        self.bytes[ATTACHED_TYPE] != NO_DEVICE
+        self.bytes[ATTACHED] != device::NONE
     }
 
     pub fn is_sata(&self) -> bool {
-        self.bytes[ATTACHED_TYPE] == END_DEVICE && self.bytes[ATTACHED_PROTOCOLS] & 1 == 1
+        self.bytes[ATTACHED] == device::END && self.bytes[ATTACHED_TARGET_PROTOCOLS] & 1 == 1
     }
 
     pub fn is_up(&self) -> bool {
@@ -151,7 +152,7 @@ impl Phy {
         if lowest <= highest {
             highest
         } else {
-            FAILED
+            rate::FAILED
         }
     }
 }

@@ -1,14 +1,11 @@
 //! Rows of an adapter. Many are alike but for one part, so that a search has to look at every byte.
 
 use super::phy::Phy;
-use crate::names::ROW_SIZE;
+use crate::names::row::{OS, SAS_LUN, SIZE};
 use crate::random::Random;
 
 /// SAS address 8, SAS LUN 8, host index, path, target, LUN.
-pub type Row = [u8; ROW_SIZE];
-
-/// Where the four OS bytes start.
-pub const OS: usize = 16;
+pub type Row = [u8; SIZE];
 
 /// Rows of which no two share SAS address and LUN, nor all four OS bytes.
 pub fn distinct(random: &mut Random, count: usize, phys: &[Phy]) -> Vec<Row> {
@@ -33,11 +30,11 @@ fn candidate(random: &mut Random, rows: &[Row], phys: &[Phy]) -> Row {
         row = random.pick(rows);
         let sas = random.below(OS);
         row[sas] = random.byte();
-        let os = random.within(OS, ROW_SIZE - 1);
+        let os = random.within(OS, SIZE - 1);
         row[os] = random.byte();
     } else if random.one_in(2) {
         let phy = &phys[random.below(phys.len())];
-        row[..8].copy_from_slice(&phy.attached_address());
+        row[..SAS_LUN].copy_from_slice(&phy.attached_address());
     }
     row
 }

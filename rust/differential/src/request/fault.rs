@@ -1,8 +1,12 @@
 //! Faults put into requests: each changes one thing.
 
-use super::fis::{DEVICE, LBA_BIT};
+use super::fis;
 use crate::adapter::Adapter;
-use crate::names::{body_size, code, header, stp, PROGRAM_LONGEST};
+use crate::names::ata::LBA_MODE;
+use crate::names::{
+    body_size, code, header, link_errors as errors, scsi_address, set_phy_info as info, stp,
+    CSMI_ALL, CSMI_SAS, NOT_GIVEN, PROGRAM_LONGEST,
+};
 use crate::random::Random;
 use crate::wire::{put_word, word};
 
@@ -25,6 +29,10 @@ const UNKNOWN: [u32; 16] = [
     0x8000_0019,
     u32::MAX,
 ];
+
+/// What stands before a body, and before bDataBuffer in one.
+const HEADER: u32 = header::SIZE as u32;
+const PARAMETERS: u32 = stp::DATA as u32;
 
 pub fn in_either(random: &mut Random, adapter: &Adapter, request: &mut Vec<u8>) {
     if random.one_in(2) {
@@ -70,8 +78,8 @@ fn control_code(random: &mut Random, request: &mut [u8]) {
 fn signature(random: &mut Random, request: &mut [u8]) {
     let place = &mut request[header::SIGNATURE..header::TIMEOUT];
     match random.below(4) {
-        0 => place.copy_from_slice(&header::CSMI_ALL),
-        1 => place.copy_from_slice(&header::CSMI_SAS),
+        0 => place.copy_from_slice(&CSMI_ALL),
+        1 => place.copy_from_slice(&CSMI_SAS),
         2 => place.copy_from_slice(b"CSMIPHY\0"),
         _ => {
             let at = random.below(place.len());
@@ -90,9 +98,9 @@ fn length(random: &mut Random, request: &mut Vec<u8>) {
         size,
         inside.saturating_sub(1),
         inside + 1,
-        inside + 28,
-        u32::MAX - 27,
-        u32::MAX - 28,
+        inside + HEADER,
+        u32::MAX - HEADER + 1,
+        u32::MAX - HEADER,
         u32::MAX,
     ]);
     put_word(request, header::LENGTH, chosen);
@@ -134,8 +142,8 @@ pub fn in_body(random: &mut Random, adapter: &Adapter, request: &mut [u8]) {
     let control = word(request, header::CONTROL_CODE);
     let body = &mut request[header::SIZE..];
     match control {
-        code::SET_PHY_INFO if body.len() >= 8 => set_phy_info(random, adapter, body),
-        code::LINK_ERRORS if body.len() >= 2 => link_errors(random, adapter, body),
+        code::SET_PHY_INFO if body.len() >= info::SIZE => set_phy_info(random, adapter, body),
+        code::LINK_ERRORS if body.len() > errors::RESET => link_errors(random, adapter, body),
         code::STP_PASSTHRU if body.len() >= stp::DATA => passthrough(random, adapter, body),
         _ if !body.is_empty() => first_bytes(random, adapter, body),
         _ => {}
@@ -151,11 +159,11 @@ fn no_phy(random: &mut Random, adapter: &Adapter) -> u8 {
 
 fn set_phy_info(random: &mut Random, adapter: &Adapter, body: &mut [u8]) {
     match random.below(5) {
-        0 => body[0] = no_phy(random, adapter),
-        1 => body[1] = random.within(2, 255) as u8,
-        2 => body[2] = bad_rate(random),
-        3 => body[3] = bad_rate(random),
-        _ => body[4] = random.within(4, 255) as u8,
+        0 => body[info::PHY] = no_phy(random, adapter),
+        1 => body[info::NEGOTIATED] = random.within(2, 255) as u8,
+        2 => body[info::MINIMUM] = bad_rate(random),
+        3 => body[info::MAXIMUM] = bad_rate(random),
+        _ => body[info::SIGNAL_CLASS] = random.within(4, 255) as u8,
     }
 }
 
@@ -167,9 +175,9 @@ fn bad_rate(random: &mut Random) -> u8 {
 
 fn link_errors(random: &mut Random, adapter: &Adapter, body: &mut [u8]) {
     if random.one_in(2) {
-        body[0] = no_phy(random, adapter);
+        body[errors::PHY] = no_phy(random, adapter);
     } else {
-        body[1] = random.within(2, 255) as u8;
+        body[errors::RESET] = random.within(2, 255) as u8;
     }
 }
 
@@ -178,17 +186,17 @@ fn first_bytes(random: &mut Random, adapter: &Adapter, body: &mut [u8]) {
     if random.one_in(2) {
         body[0] = no_phy(random, adapter);
     } else {
-        let at = random.below(body.len().min(16));
+        let at = random.below(body.len().min(scsi_address::OS));
         body[at] = random.other_than(body[at]);
     }
 }
 
 fn passthrough(random: &mut Random, adapter: &Adapter, body: &mut [u8]) {
     match random.below(10) {
-        0 => body[stp::FIS] = random.other_than(body[stp::FIS]),
+        0 => body[stp::COMMAND_FIS] = random.other_than(body[stp::COMMAND_FIS]),
         1 => body[stp::RATE] = bad_rate(random),
         2 => body[stp::RATE] = 9,
-        3 => (body[stp::PHY], body[stp::PORT]) = (stp::NOT_GIVEN, stp::NOT_GIVEN),
+        3 => (body[stp::PHY], body[stp::PORT]) = (NOT_GIVEN, NOT_GIVEN),
         4 => body[stp::PHY] = no_phy(random, adapter),
         5 => body[stp::PORT] = random.byte(),
         6 => body[stp::PORT] = random.below(adapter.phys.len()) as u8,
@@ -196,7 +204,7 @@ fn passthrough(random: &mut Random, adapter: &Adapter, body: &mut [u8]) {
             let at = stp::DESTINATION + random.below(8);
             body[at] = random.other_than(body[at]);
         }
-        8 => body[stp::FIS + DEVICE] &= !LBA_BIT,
+        8 => body[stp::COMMAND_FIS + fis::DEVICE] &= !LBA_MODE,
         _ => data_length(random, body),
     }
 }
@@ -209,11 +217,11 @@ fn data_length(random: &mut Random, body: &mut [u8]) {
         here / 2,
         here.saturating_sub(1),
         here + 1,
-        here + 28,
+        here + HEADER,
         u32::MAX,
-        u32::MAX - 135,
-        u32::MAX - 136,
-        u32::MAX - 163,
+        u32::MAX - PARAMETERS + 1,
+        u32::MAX - PARAMETERS,
+        u32::MAX - HEADER - PARAMETERS + 1,
         0x8000_0000,
     ]);
     put_word(body, stp::DATA_LENGTH, chosen);

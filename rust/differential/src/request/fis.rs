@@ -1,26 +1,18 @@
 //! Command FISes.
 
-use crate::names::stp::{CHECK_POWER, IDENTIFY, READ, WRITE};
-use crate::names::{SECTOR, SECTORS};
+use crate::names::ata::*;
+pub use crate::names::fis::*;
+use crate::names::{fis_type, SECTOR, SECTORS};
 use crate::random::Random;
-
-const SIZE: usize = 20;
-pub const COMMAND: usize = 2;
-pub const DEVICE: usize = 7;
-const COUNT: usize = 12;
-/// The type of a command FIS.
-const TYPE: u8 = 0x27;
-/// Bit 6 of the device byte: the LBA is meant.
-pub const LBA_BIT: u8 = 0x40;
 
 pub type Fis = [u8; SIZE];
 
 /// A FIS of this command, the LBA bit set; bytes that no rule names are random.
 pub fn command(random: &mut Random, command: u8, lba: u32, count: u8) -> Fis {
     let mut fis: Fis = random.array();
-    fis[0] = TYPE;
+    fis[TYPE] = fis_type::COMMAND;
     fis[COMMAND] = command;
-    fis[DEVICE] |= LBA_BIT;
+    fis[DEVICE] |= LBA_MODE;
     fis[COUNT] = count;
     set_lba(&mut fis, lba);
     fis
@@ -29,10 +21,10 @@ pub fn command(random: &mut Random, command: u8, lba: u32, count: u8) -> Fis {
 /// Any FIS: mostly reads and writes, mostly within the disk.
 pub fn any(random: &mut Random) -> Fis {
     let code = match random.below(10) {
-        0..=3 => WRITE,
-        4..=6 => READ,
-        7 => IDENTIFY,
-        8 => CHECK_POWER,
+        0..=3 => WRITE_SECTORS,
+        4..=6 => READ_SECTORS,
+        7 => IDENTIFY_DEVICE,
+        8 => CHECK_POWER_MODE,
         _ => random.byte(),
     };
     let (lba, count) = range(random);
@@ -62,14 +54,14 @@ pub fn edge(random: &mut Random) -> (u32, u8) {
 
 fn set_lba(fis: &mut Fis, lba: u32) {
     let bytes = lba.to_le_bytes();
-    fis[4..DEVICE].copy_from_slice(&bytes[..3]);
+    fis[LBA..DEVICE].copy_from_slice(&bytes[..3]);
     fis[DEVICE] = fis[DEVICE] & 0xF0 | bytes[3] & 0x0F;
 }
 
 pub fn lba(fis: &[u8]) -> usize {
-    usize::from(fis[4])
-        + (usize::from(fis[5]) << 8)
-        + (usize::from(fis[6]) << 16)
+    usize::from(fis[LBA])
+        + (usize::from(fis[LBA + 1]) << 8)
+        + (usize::from(fis[LBA + 2]) << 16)
         + (usize::from(fis[DEVICE] & 0x0F) << 24)
 }
 
@@ -84,8 +76,8 @@ pub fn sectors(fis: &[u8]) -> usize {
 /// The bytes that a success of this FIS moves.
 pub fn data(fis: &[u8]) -> usize {
     match fis[COMMAND] {
-        READ | WRITE => SECTOR * sectors(fis),
-        IDENTIFY => SECTOR,
+        READ_SECTORS | WRITE_SECTORS => SECTOR * sectors(fis),
+        IDENTIFY_DEVICE => SECTOR,
         _ => 0,
     }
 }
@@ -98,15 +90,15 @@ mod tests {
     fn an_lba_comes_back() {
         let mut random = Random::new(1);
         for number in [0, 15, 16, 0x123_4567, 0xFFF_FFFF] {
-            let fis = command(&mut random, READ, number, 3);
+            let fis = command(&mut random, READ_SECTORS, number, 3);
             assert_eq!(lba(&fis), number as usize);
-            assert_eq!(fis[DEVICE] & LBA_BIT, LBA_BIT);
+            assert_eq!(fis[DEVICE] & LBA_MODE, LBA_MODE);
         }
     }
 
     #[test]
     fn count_0_means_256() {
-        let fis = command(&mut Random::new(2), WRITE, 0, 0);
+        let fis = command(&mut Random::new(2), WRITE_SECTORS, 0, 0);
         assert_eq!(data(&fis), 256 * SECTOR);
     }
 }

@@ -3,7 +3,7 @@
 use super::fis::{self, Fis};
 use crate::adapter::phy::Phy;
 use crate::adapter::Adapter;
-use crate::names::{stp, DISK};
+use crate::names::{stp, DISK, NOT_GIVEN};
 use crate::random::Random;
 use crate::wire::put_word;
 
@@ -55,7 +55,7 @@ impl Passthrough {
         body[stp::PORT] = self.port;
         body[stp::RATE] = self.rate;
         body[stp::DESTINATION..stp::DESTINATION + 8].copy_from_slice(&self.destination);
-        body[stp::FIS..stp::FLAGS].copy_from_slice(&self.fis);
+        body[stp::COMMAND_FIS..stp::FLAGS].copy_from_slice(&self.fis);
         put_word(&mut body, stp::DATA_LENGTH, self.data_length);
         body.extend(&self.data);
         body
@@ -67,13 +67,9 @@ fn select<'a>(random: &mut Random, adapter: &'a Adapter) -> (u8, u8, &'a Phy) {
     let n = connected(random, adapter);
     let phy = &adapter.phys[n];
     match random.below(4) {
-        0 => (
-            stp::NOT_GIVEN,
-            phy.port(),
-            lowest_of_port(adapter, phy.port()),
-        ),
+        0 => (NOT_GIVEN, phy.port(), lowest_of_port(adapter, phy.port())),
         1 => (n as u8, phy.port(), phy),
-        _ => (n as u8, stp::NOT_GIVEN, phy),
+        _ => (n as u8, NOT_GIVEN, phy),
     }
 }
 

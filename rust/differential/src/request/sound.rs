@@ -1,9 +1,11 @@
 //! The bodies of sound requests. Addresses, phys and rows are mostly the adapter's own.
 
 use super::passthrough::Passthrough;
-use crate::adapter::row::OS;
 use crate::adapter::Adapter;
-use crate::names::{body_size, code};
+use crate::names::row::OS;
+use crate::names::{
+    body_size, code, device_address, link_errors, sata_signature, scsi_address, set_phy_info as at,
+};
 use crate::random::Random;
 
 pub fn body(random: &mut Random, adapter: &Adapter, control: u32) -> Vec<u8> {
@@ -14,10 +16,10 @@ pub fn body(random: &mut Random, adapter: &Adapter, control: u32) -> Vec<u8> {
     match control {
         code::SET_PHY_INFO => set_phy_info(random, adapter, &mut body),
         code::LINK_ERRORS => {
-            body[0] = phy(random, adapter);
-            body[1] = random.below(2) as u8;
+            body[link_errors::PHY] = phy(random, adapter);
+            body[link_errors::RESET] = random.below(2) as u8;
         }
-        code::SATA_SIGNATURE => body[0] = phy(random, adapter),
+        code::SATA_SIGNATURE => body[sata_signature::PHY] = phy(random, adapter),
         code::SCSI_ADDRESS => scsi_address(random, adapter, &mut body),
         code::DEVICE_ADDRESS => device_address(random, adapter, &mut body),
         _ => {}
@@ -31,9 +33,9 @@ fn phy(random: &mut Random, adapter: &Adapter) -> u8 {
 }
 
 fn set_phy_info(random: &mut Random, adapter: &Adapter, body: &mut [u8]) {
-    body[0] = phy(random, adapter);
-    body[1] = u8::from(random.one_in(6));
-    (body[2], body[3]) = random.pick(&[
+    body[at::PHY] = phy(random, adapter);
+    body[at::NEGOTIATED] = u8::from(random.one_in(6));
+    (body[at::MINIMUM], body[at::MAXIMUM]) = random.pick(&[
         (0, 0),
         (8, 9),
         (8, 9),
@@ -44,19 +46,19 @@ fn set_phy_info(random: &mut Random, adapter: &Adapter, body: &mut [u8]) {
         (0, 8),
         (9, 0),
     ]);
-    body[4] = random.below(4) as u8;
+    body[at::SIGNAL_CLASS] = random.below(4) as u8;
 }
 
 fn scsi_address(random: &mut Random, adapter: &Adapter, body: &mut [u8]) {
     if !adapter.rows.is_empty() {
         let row = random.pick(&adapter.rows);
-        body[..OS].copy_from_slice(&row[..OS]);
+        body[..scsi_address::OS].copy_from_slice(&row[..OS]);
     }
 }
 
 fn device_address(random: &mut Random, adapter: &Adapter, body: &mut [u8]) {
     if !adapter.rows.is_empty() {
         let row = random.pick(&adapter.rows);
-        body[..4].copy_from_slice(&row[OS..]);
+        body[..device_address::SAS_ADDRESS].copy_from_slice(&row[OS..]);
     }
 }

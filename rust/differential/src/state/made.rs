@@ -3,10 +3,10 @@
 use super::medium_length;
 use crate::adapter::damage::{self, Damage};
 use crate::adapter::form::Form;
-use crate::adapter::{Adapter, MOST_PHYS};
+use crate::adapter::Adapter;
 use crate::compare::Difference;
 use crate::medium;
-use crate::names::DISK;
+use crate::names::{DISK, MAX_PHYS};
 use crate::pair::Pair;
 use crate::random::Random;
 use crate::request;
@@ -67,7 +67,7 @@ fn state(random: &mut Random, adapter: &Adapter, broken: &[&Damage]) -> Vec<u8> 
 /// Mostly of the length that belongs to the state. Media of more than 32 disks, for states that are refused, are not random: they are long.
 fn lent_medium(random: &mut Random, state: &[u8]) -> Vec<u8> {
     let right = medium_length(state);
-    if right > MOST_PHYS * DISK {
+    if right > MAX_PHYS * DISK {
         vec![0x33; right]
     } else if right > 0 && random.one_in(6) {
         medium::of_wrong_length(random, right / DISK)

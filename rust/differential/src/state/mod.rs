@@ -5,7 +5,7 @@ pub mod made;
 pub mod reading;
 
 use crate::adapter::Adapter;
-use crate::names::{state, DISK};
+use crate::names::{state, DISK, MAX_PHYS, MAX_ROWS};
 use crate::random::Random;
 use crate::text::LEVELS;
 
@@ -43,8 +43,8 @@ fn edges(random: &mut Random) -> Vec<u8> {
 fn counted(random: &mut Random) -> Vec<u8> {
     let mut bytes = random.bytes(state::SIZE);
     bytes[state::LEVEL] = random.pick(&LEVELS);
-    bytes[state::PHY_COUNT] = random.within(1, 32) as u8;
-    bytes[state::ROW_COUNT] = random.within(0, 64) as u8;
+    bytes[state::PHY_COUNT] = random.within(1, MAX_PHYS) as u8;
+    bytes[state::ROW_COUNT] = random.within(0, MAX_ROWS) as u8;
     bytes
 }
 

@@ -1,7 +1,6 @@
 //! Requests whose replies show a byte of a state, or go by it.
 
-use crate::adapter::row::OS;
-use crate::names::{code, phy, state, stp, DRIVER_SIZE, ROW_SIZE};
+use crate::names::{ata, body_size, code, phy, row, state, stp, ENTITY, MAX_ROWS};
 use crate::random::Random;
 use crate::request::{buffer, fis};
 
@@ -16,13 +15,13 @@ enum Place {
 
 fn place(at: usize) -> Place {
     match at {
-        0..state::DRIVER => Place::Counts,
-        state::DRIVER..state::PHYS => Place::Driver,
+        0..state::DRIVER_INFO => Place::Counts,
+        state::DRIVER_INFO..state::PHYS => Place::Driver,
         state::PHYS..state::ROWS => {
             let in_phys = at - state::PHYS;
             Place::Phy(in_phys / phy::SIZE, in_phys % phy::SIZE)
         }
-        _ => Place::Row((at - state::ROWS) / ROW_SIZE),
+        _ => Place::Row((at - state::ROWS) / row::SIZE),
     }
 }
 
@@ -32,7 +31,7 @@ pub fn requests(random: &mut Random, state: &[u8], at: usize) -> Vec<Vec<u8>> {
         Place::Counts => vec![phy_info(), device_address(last_row(state))],
         Place::Driver => vec![driver_info()],
         Place::Phy(n, offset) => match offset {
-            0..phy::ENTITY_SIZE => vec![phy_info(), check_power(random, phy_of(state, n), n)],
+            0..ENTITY => vec![phy_info(), check_power(random, phy_of(state, n), n)],
             phy::COUNTERS..phy::SIGNATURE => vec![link_errors(n)],
             phy::SIGNATURE..phy::FIXED => vec![sata_signature(n)],
             _ => vec![set_phy_info(random, n)],
@@ -53,57 +52,55 @@ fn row_of(state: &[u8], i: usize) -> &[u8] {
 }
 
 fn last_row(state: &[u8]) -> &[u8] {
-    let last = usize::from(state[state::ROW_COUNT]).clamp(1, 64) - 1;
+    let last = usize::from(state[state::ROW_COUNT]).clamp(1, MAX_ROWS) - 1;
     row_of(state, last)
 }
 
+/// A request of this code, its body zero but for what is put at its start.
+fn request(control: u32, start: &[u8]) -> Vec<u8> {
+    let mut body = start.to_vec();
+    body.resize(body_size(control).unwrap_or(0), 0);
+    buffer(control, &body)
+}
+
 pub fn driver_info() -> Vec<u8> {
-    buffer(code::DRIVER_INFO, &[0; DRIVER_SIZE])
+    request(code::DRIVER_INFO, &[])
 }
 
 pub fn phy_info() -> Vec<u8> {
-    buffer(code::PHY_INFO, &[0; 2052])
+    request(code::PHY_INFO, &[])
 }
 
 fn link_errors(n: usize) -> Vec<u8> {
-    let mut body = [0; 20];
-    body[0] = n as u8;
-    buffer(code::LINK_ERRORS, &body)
+    request(code::LINK_ERRORS, &[n as u8])
 }
 
 fn sata_signature(n: usize) -> Vec<u8> {
-    let mut body = [0; 24];
-    body[0] = n as u8;
-    buffer(code::SATA_SIGNATURE, &body)
+    request(code::SATA_SIGNATURE, &[n as u8])
 }
 
 /// A link reset with other rates: it goes by fixed and by the device's rates.
 fn set_phy_info(random: &mut Random, n: usize) -> Vec<u8> {
     let (minimum, maximum) = random.pick(&[(8, 8), (9, 9), (8, 9), (0, 0)]);
-    let body = [n as u8, 0, minimum, maximum, 1, 0, 0, 0];
-    buffer(code::SET_PHY_INFO, &body)
+    request(code::SET_PHY_INFO, &[n as u8, 0, minimum, maximum, 1])
 }
 
 /// To the phy by its number and by its port: it goes by port, rates, device and address.
 fn check_power(random: &mut Random, phy: &[u8], n: usize) -> Vec<u8> {
     let mut body = [0; stp::DATA];
-    (body[stp::PHY], body[stp::PORT]) = (n as u8, phy[phy::PORT]);
+    (body[stp::PHY], body[stp::PORT]) = (n as u8, phy[phy::PORT_IDENTIFIER]);
     body[stp::RATE] = random.pick(&[0, 8, 9]);
-    let address = &phy[phy::ATTACHED_ADDRESS..phy::ATTACHED_ADDRESS + 8];
+    let address = &phy[phy::ATTACHED_SAS_ADDRESS..phy::ATTACHED_SAS_ADDRESS + 8];
     body[stp::DESTINATION..stp::DESTINATION + 8].copy_from_slice(address);
-    let fis = fis::command(random, stp::CHECK_POWER, 0, 0);
-    body[stp::FIS..stp::FLAGS].copy_from_slice(&fis);
+    let fis = fis::command(random, ata::CHECK_POWER_MODE, 0, 0);
+    body[stp::COMMAND_FIS..stp::FLAGS].copy_from_slice(&fis);
     buffer(code::STP_PASSTHRU, &body)
 }
 
 fn scsi_address(row: &[u8]) -> Vec<u8> {
-    let mut body = [0; 20];
-    body[..OS].copy_from_slice(&row[..OS]);
-    buffer(code::SCSI_ADDRESS, &body)
+    request(code::SCSI_ADDRESS, &row[..row::OS])
 }
 
 fn device_address(row: &[u8]) -> Vec<u8> {
-    let mut body = [0; 20];
-    body[..4].copy_from_slice(&row[OS..]);
-    buffer(code::DEVICE_ADDRESS, &body)
+    request(code::DEVICE_ADDRESS, &row[row::OS..])
 }

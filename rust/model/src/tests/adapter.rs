@@ -1,8 +1,10 @@
 //! A sample adapter, its file, and requests to it.
 
-use crate::file::{block_check, BLOCK, CHECK};
-use crate::state::{entity, Phy, Row, State};
-use crate::{open, request};
+use crate::layout::entity;
+use crate::layout::file::{
+    BLOCK, CHECK, DRIVER_INFO, DRIVER_INFO_END, PHY_COUNT, ROWS_PER_BLOCK, ROW_COUNT,
+};
+use crate::{block_check, open, request, Phy, Row, State};
 
 pub const FULL: &[u8] = b"CSMI=Full;";
 
@@ -27,7 +29,7 @@ fn attach(mut phy: Phy, device_type: u8, target_protocols: u8, lowest: u8, highe
     let n = phy.entity[entity::PHY_IDENTIFIER];
     phy.entity[entity::ATTACHED] = device_type;
     phy.entity[entity::ATTACHED_TARGET_PROTOCOLS] = target_protocols;
-    phy.entity[entity::ATTACHED_SAS_ADDRESS..][..8].copy_from_slice(&address(n));
+    phy.entity[48..56].copy_from_slice(&address(n));
     phy.lowest = lowest;
     phy.highest = highest;
     phy.entity[entity::NEGOTIATED] = highest;
@@ -66,29 +68,25 @@ pub fn row(n: u8) -> Row {
 /// The blocks of a file that holds the state, their checks not yet set.
 pub fn blocks(state: &State) -> Vec<[u8; BLOCK]> {
     let mut first = [0; BLOCK];
-    first[0] = state.p;
-    first[1] = state.a;
-    first[4..178].copy_from_slice(&state.driver_info);
+    first[PHY_COUNT] = state.p;
+    first[ROW_COUNT] = state.a;
+    first[DRIVER_INFO..DRIVER_INFO_END].copy_from_slice(&state.driver_info);
     let mut blocks = vec![first];
     for phy in state.live_phys() {
-        let mut block = [0; BLOCK];
-        block[..64].copy_from_slice(&phy.entity);
-        for (i, counter) in phy.counters.iter().enumerate() {
-            block[64 + 4 * i..68 + 4 * i].copy_from_slice(&counter.to_le_bytes());
-        }
-        block[80..100].copy_from_slice(&phy.signature);
-        block[100..104].copy_from_slice(&[phy.held, phy.fixed, phy.lowest, phy.highest]);
-        blocks.push(block);
+        blocks.push(block(&phy.to_bytes()));
     }
-    for rows in state.live_rows().chunks(25) {
-        let mut block = [0; BLOCK];
-        for (i, row) in rows.iter().enumerate() {
-            let bytes = [&row.sas_address[..], &row.sas_lun, &row.os].concat();
-            block[20 * i..20 * i + 20].copy_from_slice(&bytes);
-        }
-        blocks.push(block);
+    for rows in state.live_rows().chunks(ROWS_PER_BLOCK) {
+        let rows: Vec<_> = rows.iter().map(Row::to_bytes).collect();
+        blocks.push(block(rows.as_flattened()));
     }
     blocks
+}
+
+/// A block that starts with these bytes.
+fn block(bytes: &[u8]) -> [u8; BLOCK] {
+    let mut block = [0; BLOCK];
+    block[..bytes.len()].copy_from_slice(bytes);
+    block
 }
 
 /// The file of these blocks, with their checks.
@@ -154,6 +152,16 @@ pub fn code_of(state: &mut State, medium: &mut [u8], buffer: &mut [u8]) -> u32 {
         assert_eq!(buffer[28..], before.2[28..]);
     }
     code
+}
+
+/// The return code of one request to the sample.
+pub fn answer(code: u32, body: &[u8]) -> u32 {
+    answer_of(&mut sample(), &mut buffer(code, body))
+}
+
+pub fn answer_of(state: &mut State, buffer: &mut [u8]) -> u32 {
+    let mut medium = medium(state.p);
+    code_of(state, &mut medium, buffer)
 }
 
 /// A command FIS to sectors, bit 6 of byte 7 set.

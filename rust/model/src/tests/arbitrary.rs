@@ -1,9 +1,8 @@
 //! Arbitrary inputs: no panic, and what holds of every call.
 
 use super::adapter::{address, buffer, file, fis, medium, passthrough, sample, sealed};
-use crate::file::BLOCK;
-use crate::state::{Phy, Row, State};
-use crate::{denied, fields, open, request};
+use crate::layout::file::BLOCK;
+use crate::{denied, fields, open, request, Phy, Row, State};
 
 /// A small generator of numbers, the same at each run.
 pub struct Numbers(u64);

@@ -2,18 +2,18 @@
 
 use super::adapter::{buffer, medium, sample};
 use super::arbitrary::Numbers;
-use crate::state::{Phy, Row, State};
-use crate::{request, STATE_SIZE};
+use crate::layout::state::SIZE;
+use crate::{request, Phy, Row, State};
 
 /// Bytes of which neighbours differ, also those a phy's or a row's bytes apart.
-fn counted() -> [u8; STATE_SIZE] {
+fn counted() -> [u8; SIZE] {
     std::array::from_fn(|at| (at * 7 + at / 104 * 3 + at / 256) as u8)
 }
 
 #[test]
 fn the_zero_state_is_zero_bytes() {
-    assert_eq!(State::ZERO.to_bytes(), [0; STATE_SIZE]);
-    assert_eq!(State::from_bytes(&[0; STATE_SIZE]), State::ZERO);
+    assert_eq!(State::ZERO.to_bytes(), [0; SIZE]);
+    assert_eq!(State::from_bytes(&[0; SIZE]), State::ZERO);
 }
 
 #[test]
@@ -44,14 +44,11 @@ fn every_field_has_its_place() {
 fn every_byte_string_comes_back() {
     let mut numbers = Numbers::new(0x0BAD_CAFE_0000_0001);
     for _ in 0..2_000 {
-        let bytes: [u8; STATE_SIZE] = numbers.bytes(STATE_SIZE).try_into().unwrap();
+        let bytes: [u8; SIZE] = numbers.bytes(SIZE).try_into().unwrap();
         assert_eq!(State::from_bytes(&bytes).to_bytes(), bytes);
     }
     assert_eq!(State::from_bytes(&counted()).to_bytes(), counted());
-    assert_eq!(
-        State::from_bytes(&[0xFF; STATE_SIZE]).to_bytes(),
-        [0xFF; STATE_SIZE]
-    );
+    assert_eq!(State::from_bytes(&[0xFF; SIZE]).to_bytes(), [0xFF; SIZE]);
 }
 
 /// One byte changed is one byte of the state changed.
@@ -59,7 +56,7 @@ fn every_byte_string_comes_back() {
 fn every_place_is_held() {
     let sound = sample();
     let bytes = sound.to_bytes();
-    for at in 0..STATE_SIZE {
+    for at in 0..SIZE {
         let mut changed = bytes;
         changed[at] ^= 0x40;
         let state = State::from_bytes(&changed);
@@ -106,7 +103,7 @@ fn requests_on_any_bytes() {
     for _ in 0..4_000 {
         let mut bytes = sound;
         for _ in 0..numbers.below(3) {
-            bytes[numbers.below(STATE_SIZE)] = numbers.byte();
+            bytes[numbers.below(SIZE)] = numbers.byte();
         }
         let mut state = State::from_bytes(&bytes);
         let mut sent = buffer(1, &[0; 174]);

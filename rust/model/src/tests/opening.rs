@@ -1,8 +1,8 @@
 //! Each opening number, and the order of the checks.
 
 use super::adapter::{blocks, file, medium, opening, row, sample, sealed, FULL};
-use crate::state::{entity, Phy};
-use crate::{open, State};
+use crate::layout::entity;
+use crate::{open, Phy, State};
 
 #[test]
 fn accepted() {

@@ -4,7 +4,9 @@ use super::adapter::{buffer, file, medium, return_code, sample};
 use crate::disk::Outcome;
 use crate::file::file_length;
 use crate::level::Level;
-use crate::{block_check, denied, link_rule, open, request, Rates};
+use crate::link::link_rule;
+use crate::rates::Rates;
+use crate::{block_check, denied, open, request};
 
 #[test]
 fn texts() {

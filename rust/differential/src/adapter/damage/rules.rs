@@ -1,12 +1,10 @@
 //! The rules of counts, fields and rows, which a file and a state keep: each broken alone.
 
 use super::breaks::*;
-use super::damage::{field, row, Damage};
-use super::phy::Phy;
-use super::row::OS;
-use super::{MOST_PHYS, MOST_ROWS};
+use super::one::{field, shared, Damage};
+use crate::adapter::phy::Phy;
 use crate::names::phy::*;
-use crate::names::ROW_SIZE;
+use crate::names::{row, ENTITY, MAX_PHYS, MAX_ROWS};
 
 fn no_device(phy: &Phy) -> bool {
     !phy.has_device()
@@ -19,19 +17,19 @@ fn other_device(phy: &Phy) -> bool {
 pub const RULES: &[Damage] = &[
     field("no phys", |_, held| set(held, held.phy_count(), 0)),
     field("too many phys", |r, held| {
-        set(held, held.phy_count(), r.within(MOST_PHYS + 1, 255) as u8)
+        set(held, held.phy_count(), r.within(MAX_PHYS + 1, 255) as u8)
     }),
     field("too many rows", |r, held| {
-        set(held, held.row_count(), r.within(MOST_ROWS + 1, 255) as u8)
+        set(held, held.row_count(), r.within(MAX_ROWS + 1, 255) as u8)
     }),
     field("phy identifier", |r, held| {
-        in_phy(r, held, IDENTIFIER, |r, _, was| r.other_than(was))
+        in_phy(r, held, PHY_IDENTIFIER, |r, _, was| r.other_than(was))
     }),
     field("signal class", |r, held| {
-        in_phy(r, held, CLASS, |r, _, _| r.within(4, 255) as u8)
+        in_phy(r, held, SIGNAL_CLASS, |r, _, _| r.within(4, 255) as u8)
     }),
     field("port identifier", |r, held| {
-        in_phy(r, held, PORT, |r, p, _| r.within(p, 255) as u8)
+        in_phy(r, held, PORT_IDENTIFIER, |r, p, _| r.within(p, 255) as u8)
     }),
     field("minimum rate code", |r, held| {
         rates(r, held, |r, min, max| (bad_code(r, min), max))
@@ -53,11 +51,11 @@ pub const RULES: &[Damage] = &[
     }),
     field("attached device type", |r, held| {
         let at = place(r, held, |phy| phy.has_device() && !holds(phy))?;
-        set(held, at + ATTACHED_TYPE, bad_type(r))
+        set(held, at + ATTACHED, bad_type(r))
     }),
     field("attached bytes of no device", |r, held| {
         let at = place(r, held, no_device)?;
-        spoil(r, held, at + ATTACHED + 1, at + ENTITY_SIZE)
+        spoil(r, held, at + ATTACHED + 1, at + ENTITY)
     }),
     field("signature bytes of no device", |r, held| {
         let at = place(r, held, no_device)?;
@@ -113,8 +111,10 @@ pub const RULES: &[Damage] = &[
         spoil(r, held, at + SIGNATURE, at + HELD)
     }),
     field("negotiated rate", negotiated),
-    row("shared SAS address and LUN", |r, held| {
-        share(r, held, 0, OS)
+    shared("shared SAS address and LUN", |r, held| {
+        share(r, held, 0, row::OS)
     }),
-    row("shared OS bytes", |r, held| share(r, held, OS, ROW_SIZE)),
+    shared("shared OS bytes", |r, held| {
+        share(r, held, row::OS, row::SIZE)
+    }),
 ];

@@ -1,10 +1,11 @@
 //! The ways in which damage changes an adapter's bytes. `None` says that the adapter has no place for it.
 
-use super::form::Held;
-use super::phy::Phy;
-use super::{check, file_length, CHECK_AT, MOST_PHYS, MOST_ROWS};
+use crate::adapter::form::Held;
+use crate::adapter::phy::Phy;
+use crate::adapter::{check, file_length};
+use crate::names::file::{BLOCK, CHECK, PHY_COUNT, ROWS_END, ROWS_PER_BLOCK, ROW_COUNT};
 use crate::names::phy::*;
-use crate::names::{BLOCK, ROWS_PER_BLOCK, ROW_SIZE};
+use crate::names::{device, rate, row, MAX_PHYS, MAX_ROWS};
 use crate::random::Random;
 use crate::wire::put_word;
 
@@ -39,18 +40,18 @@ pub fn add(held: &mut Held, length: usize) -> Option<()> {
 }
 
 pub fn other_phy_count(random: &mut Random, held: &mut Held) -> Option<()> {
-    let count = random.within(1, MOST_PHYS);
-    (count != held.p()).then(|| held.bytes[0] = count as u8)
+    let count = random.within(1, MAX_PHYS);
+    (count != held.p()).then(|| held.bytes[PHY_COUNT] = count as u8)
 }
 
 pub fn other_row_count(random: &mut Random, held: &mut Held) -> Option<()> {
-    let count = random.within(0, MOST_ROWS);
+    let count = random.within(0, MAX_ROWS);
     let length = file_length(held.p(), count);
-    (length != held.bytes.len()).then(|| held.bytes[1] = count as u8)
+    (length != held.bytes.len()).then(|| held.bytes[ROW_COUNT] = count as u8)
 }
 
 pub fn bump_check(random: &mut Random, held: &mut Held, block: usize) -> Option<()> {
-    let at = block * BLOCK + CHECK_AT + random.below(4);
+    let at = block * BLOCK + CHECK + random.below(4);
     change(random, held, at)
 }
 
@@ -58,7 +59,7 @@ pub fn check_of_other_number(random: &mut Random, held: &mut Held) -> Option<()>
     let number = random.below(held.bytes.len() / BLOCK);
     let block = &mut held.bytes[number * BLOCK..(number + 1) * BLOCK];
     let check = check(block, number + random.within(1, 3));
-    put_word(block, CHECK_AT, check);
+    put_word(block, CHECK, check);
     Some(())
 }
 
@@ -95,7 +96,7 @@ pub fn rates(
 ) -> Option<()> {
     let at = held.phy(random.below(held.p()));
     let bytes = &mut held.bytes[at..];
-    bytes[NEGOTIATED] = DISABLED;
+    bytes[NEGOTIATED] = rate::DISABLED;
     (bytes[MINIMUM], bytes[MAXIMUM]) = choose(random, bytes[MINIMUM], bytes[MAXIMUM]);
     Some(())
 }
@@ -110,10 +111,18 @@ pub fn bad_code(random: &mut Random, rates: u8) -> u8 {
     }
 }
 
+/// Every type that document 01 knows.
+const TYPES: [u8; 4] = [
+    device::NONE,
+    device::END,
+    device::EDGE_EXPANDER,
+    device::FANOUT_EXPANDER,
+];
+
 pub fn bad_type(random: &mut Random) -> u8 {
     loop {
         let kind = random.byte();
-        if ![NO_DEVICE, END_DEVICE, EDGE, FANOUT].contains(&kind) {
+        if !TYPES.contains(&kind) {
             return kind;
         }
     }
@@ -122,7 +131,7 @@ pub fn bad_type(random: &mut Random) -> u8 {
 pub fn device_rates(random: &mut Random, held: &mut Held, choices: &[(u8, u8)]) -> Option<()> {
     let at = place(random, held, Phy::has_device)?;
     let bytes = &mut held.bytes[at..];
-    bytes[NEGOTIATED] = DISABLED;
+    bytes[NEGOTIATED] = rate::DISABLED;
     (bytes[LOWEST], bytes[HIGHEST]) = random.pick(choices);
     Some(())
 }
@@ -133,7 +142,7 @@ pub fn negotiated(random: &mut Random, held: &mut Held) -> Option<()> {
     let link = held.adapter.phys[n].link();
     let other = random.byte();
     let rate = random.pick(&[0, 2, 3, 8, 9, other]);
-    if rate == DISABLED || rate == link {
+    if rate == rate::DISABLED || rate == link {
         return None;
     }
     let at = held.phy(n) + NEGOTIATED;
@@ -142,8 +151,8 @@ pub fn negotiated(random: &mut Random, held: &mut Held) -> Option<()> {
 
 pub fn past_last_row(random: &mut Random, held: &mut Held) -> Option<()> {
     let last = held.a().checked_sub(1)?;
-    let start = held.row(last) + ROW_SIZE;
-    let end = held.bytes.len() - BLOCK + CHECK_AT;
+    let start = held.row(last) + row::SIZE;
+    let end = held.bytes.len() - BLOCK + CHECK;
     spoil(random, held, start, end)
 }
 
@@ -152,7 +161,7 @@ pub fn between_row_blocks(random: &mut Random, held: &mut Held) -> Option<()> {
     let full = held.a() / ROWS_PER_BLOCK;
     let block = (full > 0).then(|| 1 + held.p() + random.below(full))?;
     let at = block * BLOCK;
-    spoil(random, held, at + ROWS_PER_BLOCK * ROW_SIZE, at + CHECK_AT)
+    spoil(random, held, at + ROWS_END, at + CHECK)
 }
 
 /// Two rows share the bytes from `start` to before `end`.
@@ -165,14 +174,14 @@ pub fn share(random: &mut Random, held: &mut Held, start: usize, end: usize) -> 
 
 /// A byte past p: at these offsets of some phy from p on.
 pub fn past_phys(random: &mut Random, held: &mut Held, start: usize, end: usize) -> Option<()> {
-    let n = past(random, held.p(), MOST_PHYS)?;
+    let n = past(random, held.p(), MAX_PHYS)?;
     let at = held.phy(n);
     spoil(random, held, at + start, at + end)
 }
 
 /// A byte past a: at these offsets of some row from a on.
 pub fn past_rows(random: &mut Random, held: &mut Held, start: usize, end: usize) -> Option<()> {
-    let i = past(random, held.a(), MOST_ROWS)?;
+    let i = past(random, held.a(), MAX_ROWS)?;
     let at = held.row(i);
     spoil(random, held, at + start, at + end)
 }

@@ -1,0 +1,71 @@
+//! Offsets and sizes, each said once: of the structures of 001, of the adapter file, and of a
+//! state as bytes. Plain numbers, which the comparison and its tests share.
+
+mod structures;
+
+pub use structures::*;
+
+/// "the row count a (0–64)".
+pub const MAX_ROWS: usize = 64;
+
+/// "Phy n's disk is the n-th run of 8,192 bytes of the medium": 16 sectors.
+pub const SECTOR: usize = 512;
+pub const SECTORS: usize = 16;
+pub const DISK: usize = SECTOR * SECTORS;
+
+/// A phy: in a state, and in its block of the file. The PHY_ENTITY is first.
+pub mod phy {
+    pub const COUNTERS: usize = super::ENTITY;
+    pub const SIGNATURE: usize = 80;
+    pub const HELD: usize = 100;
+    pub const FIXED: usize = 101;
+    pub const LOWEST: usize = 102;
+    pub const HIGHEST: usize = 103;
+    pub const SIZE: usize = 104;
+}
+
+/// A row: in a state, and in the file. The SAS address is first.
+pub mod row {
+    pub const SAS_LUN: usize = 8;
+    /// Host index, path, target, LUN.
+    pub const OS: usize = 16;
+    pub const SIZE: usize = 20;
+}
+
+/// The adapter file: a block's check, block 0, and the rows of a block.
+pub mod file {
+    pub const BLOCK: usize = 512;
+    pub const CHECK: usize = 508;
+    pub const PHY_COUNT: usize = 0;
+    pub const ROW_COUNT: usize = 1;
+    pub const DRIVER_INFO: usize = 4;
+    pub const DRIVER_INFO_END: usize = DRIVER_INFO + super::DRIVER_INFO;
+    pub const ROWS_PER_BLOCK: usize = 25;
+    pub const ROWS_END: usize = ROWS_PER_BLOCK * super::row::SIZE;
+
+    /// Where the block of phy n starts.
+    pub const fn phy_at(n: usize) -> usize {
+        (1 + n) * BLOCK
+    }
+}
+
+/// A state as the bytes that a caller lends.
+pub mod state {
+    pub const LEVEL: usize = 0;
+    pub const PHY_COUNT: usize = 1;
+    pub const ROW_COUNT: usize = 2;
+    pub const DRIVER_INFO: usize = 3;
+    pub const PHYS: usize = DRIVER_INFO + super::DRIVER_INFO;
+    pub const ROWS: usize = phy_at(super::MAX_PHYS);
+    pub const SIZE: usize = row_at(super::MAX_ROWS);
+
+    /// Where phy n starts.
+    pub const fn phy_at(n: usize) -> usize {
+        PHYS + n * super::phy::SIZE
+    }
+
+    /// Where row i starts.
+    pub const fn row_at(i: usize) -> usize {
+        ROWS + i * super::row::SIZE
+    }
+}

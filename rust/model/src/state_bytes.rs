@@ -1,0 +1,90 @@
+//! A state as the bytes that a caller lends to the two calls. Every byte is named, so every byte
+//! string of this length stands for a state, and each state for one byte string.
+
+use crate::bytes::{array_at, u32_at};
+use crate::layout::state::{DRIVER_INFO, LEVEL, PHYS, PHY_COUNT, ROWS, ROW_COUNT, SIZE};
+use crate::layout::{phy, row};
+use crate::state::{Phy, Row, State};
+
+impl State {
+    pub fn from_bytes(bytes: &[u8; SIZE]) -> State {
+        let mut state = State::ZERO;
+        state.level = bytes[LEVEL];
+        state.p = bytes[PHY_COUNT];
+        state.a = bytes[ROW_COUNT];
+        state.driver_info = array_at(bytes, DRIVER_INFO);
+        let phys = bytes[PHYS..ROWS].as_chunks().0;
+        for (phy, bytes) in state.phys.iter_mut().zip(phys) {
+            *phy = Phy::from_bytes(bytes);
+        }
+        let rows = bytes[ROWS..].as_chunks().0;
+        for (row, bytes) in state.rows.iter_mut().zip(rows) {
+            *row = Row::from_bytes(bytes);
+        }
+        state
+    }
+
+    pub fn to_bytes(&self) -> [u8; SIZE] {
+        let mut bytes = [0; SIZE];
+        bytes[LEVEL] = self.level;
+        bytes[PHY_COUNT] = self.p;
+        bytes[ROW_COUNT] = self.a;
+        bytes[DRIVER_INFO..PHYS].copy_from_slice(&self.driver_info);
+        let phys = bytes[PHYS..ROWS].as_chunks_mut().0;
+        for (bytes, phy) in phys.iter_mut().zip(&self.phys) {
+            *bytes = phy.to_bytes();
+        }
+        let rows = bytes[ROWS..].as_chunks_mut().0;
+        for (bytes, row) in rows.iter_mut().zip(&self.rows) {
+            *bytes = row.to_bytes();
+        }
+        bytes
+    }
+}
+
+impl Phy {
+    pub fn from_bytes(bytes: &[u8; phy::SIZE]) -> Phy {
+        Phy {
+            entity: array_at(bytes, 0),
+            counters: [0, 4, 8, 12].map(|at| u32_at(bytes, phy::COUNTERS + at)),
+            signature: array_at(bytes, phy::SIGNATURE),
+            held: bytes[phy::HELD],
+            fixed: bytes[phy::FIXED],
+            lowest: bytes[phy::LOWEST],
+            highest: bytes[phy::HIGHEST],
+        }
+    }
+
+    pub fn to_bytes(&self) -> [u8; phy::SIZE] {
+        let mut bytes = [0; phy::SIZE];
+        bytes[..phy::COUNTERS].copy_from_slice(&self.entity);
+        let counters = bytes[phy::COUNTERS..phy::SIGNATURE].as_chunks_mut().0;
+        for (bytes, counter) in counters.iter_mut().zip(self.counters) {
+            *bytes = counter.to_le_bytes();
+        }
+        bytes[phy::SIGNATURE..phy::HELD].copy_from_slice(&self.signature);
+        bytes[phy::HELD] = self.held;
+        bytes[phy::FIXED] = self.fixed;
+        bytes[phy::LOWEST] = self.lowest;
+        bytes[phy::HIGHEST] = self.highest;
+        bytes
+    }
+}
+
+impl Row {
+    pub fn from_bytes(bytes: &[u8; row::SIZE]) -> Row {
+        Row {
+            sas_address: array_at(bytes, 0),
+            sas_lun: array_at(bytes, row::SAS_LUN),
+            os: array_at(bytes, row::OS),
+        }
+    }
+
+    pub fn to_bytes(&self) -> [u8; row::SIZE] {
+        let mut bytes = [0; row::SIZE];
+        bytes[..row::SAS_LUN].copy_from_slice(&self.sas_address);
+        bytes[row::SAS_LUN..row::OS].copy_from_slice(&self.sas_lun);
+        bytes[row::OS..].copy_from_slice(&self.os);
+        bytes
+    }
+}

@@ -1,0 +1,151 @@
+//! The checks of every request: the numbers, the header and the level, in their order.
+
+use super::adapter::{answer_of, buffer, fis, medium, passthrough, row, sample};
+use crate::layout::entity;
+use crate::{denied, request, State};
+
+/// The smallest bodies that are served, by code.
+fn bodies() -> [(u32, Vec<u8>); 8] {
+    let row = row(1);
+    [
+        (1, vec![0; 174]),
+        (20, vec![0xCC; 2052]),
+        (21, vec![0; 8]),
+        (22, vec![0; 20]),
+        (25, passthrough(fis(0xE5, 0, 0), &[])),
+        (26, vec![0; 24]),
+        (27, [&row.sas_address[..], &row.sas_lun, &[9; 4]].concat()),
+        (28, [&row.os[..], &[9; 16]].concat()),
+    ]
+}
+
+/// The number of a call that must leave everything as it was.
+fn number_of(state: &State, medium: &[u8], buffer: &[u8]) -> u32 {
+    let (mut s, mut m, mut b) = (state.clone(), medium.to_vec(), buffer.to_vec());
+    let number = request(&mut s, &mut m, &mut b);
+    assert_ne!(number, 0);
+    assert_eq!((&s, &m[..], &b[..]), (state, medium, buffer));
+    assert!(!denied(state, medium, buffer));
+    number
+}
+
+#[test]
+fn number_107_then_106_then_100() {
+    let sound = buffer(1, &[0; 174]);
+    assert_eq!(number_of(&State::ZERO, &[], &[]), 107);
+    assert_eq!(number_of(&State::ZERO, &medium(5), &sound), 107);
+    assert_eq!(number_of(&sample(), &medium(4), &[]), 106);
+    for length in 0..28 {
+        assert_eq!(number_of(&sample(), &medium(5), &sound[..length]), 100);
+    }
+}
+
+#[test]
+fn number_107_each_rule() {
+    let changes: [fn(&mut State); 14] = [
+        |state| state.level = 4,
+        |state| state.p = 0,
+        |state| state.p = 33,
+        |state| state.p = 255,
+        |state| state.p = 4,
+        |state| state.p = 6,
+        |state| state.a = 1,
+        |state| state.a = 65,
+        |state| state.a = 255,
+        |state| state.a = 4,
+        |state| state.phys[31].counters[3] = 1,
+        |state| state.rows[63].os[3] = 1,
+        |state| state.phys[0].entity[entity::NEGOTIATED] = 8,
+        |state| state.rows[0].os = state.rows[1].os,
+    ];
+    for change in changes {
+        let mut state = sample();
+        change(&mut state);
+        assert_eq!(number_of(&state, &medium(5), &[]), 107);
+    }
+    // one row of zeros is a row like others
+    let mut state = sample();
+    state.a = 3;
+    assert_eq!(answer_of(&mut state, &mut buffer(1, &[0; 174])), 0);
+}
+
+#[test]
+fn header_checks() {
+    for (code, body) in bodies() {
+        let sound = buffer(code, &body);
+        assert_eq!(answer_of(&mut sample(), &mut sound.clone()), 0);
+        let change = |at: usize, value: u8| {
+            let mut changed = sound.clone();
+            changed[at] = value;
+            answer_of(&mut sample(), &mut changed)
+        };
+        assert_eq!(change(0, 27), 3);
+        assert_eq!(change(3, 1), 3);
+        for at in 4..12 {
+            assert_eq!(change(at, b'x'), 2);
+        }
+        assert_eq!(change(16, 2), 2);
+        assert_eq!(change(17, 1), 2);
+        // Length one short, one past the buffer, and far past it
+        let length = body.len() as u32;
+        for wrong in [0, length - 1, length + 1, u32::MAX] {
+            let mut changed = sound.clone();
+            changed[24..28].copy_from_slice(&wrong.to_le_bytes());
+            assert_eq!(answer_of(&mut sample(), &mut changed), 3);
+        }
+        // "A larger buffer may be supplied."
+        let mut larger = [&sound[..], &[0; 9]].concat();
+        assert_eq!(answer_of(&mut sample(), &mut larger), 0);
+        // every shorter buffer, without a panic
+        for end in 28..sound.len() {
+            assert_eq!(answer_of(&mut sample(), &mut sound[..end].to_vec()), 3);
+        }
+    }
+}
+
+#[test]
+fn unknown_codes() {
+    for code in (0..70).chain([u32::MAX, 257]) {
+        let known = matches!(code, 1 | 20..=22 | 25..=28);
+        let mut sent = buffer(code, &[0; 2052]);
+        if !known {
+            assert_eq!(answer_of(&mut sample(), &mut sent), 2);
+        }
+        // HeaderLength before the code
+        sent[0] = 0;
+        assert_eq!(answer_of(&mut sample(), &mut sent), 3);
+    }
+}
+
+#[test]
+fn levels() {
+    for (code, body) in bodies() {
+        for level in 0..=3 {
+            let need = if code == 21 { 3 } else { 1 };
+            let mut state = sample();
+            state.level = level;
+            let mut sent = buffer(code, &body);
+            assert_eq!(denied(&state, &medium(5), &sent), level < need);
+            let expected = if level < need { 4 } else { 0 };
+            assert_eq!(answer_of(&mut state, &mut sent), expected);
+        }
+    }
+    for (command, need) in [(0x92, 2), (0xE8, 2), (0x30, 3), (0xA0, 3), (0x20, 1)] {
+        for level in 0..=3 {
+            let mut state = sample();
+            state.level = level;
+            let mut body = passthrough(fis(command, 0, 1), &[0; 512]);
+            // "Level tested after the phy" is wrong
+            body[0] = 99;
+            let mut sent = buffer(25, &body);
+            let expected = if level < need { 4 } else { 2002 };
+            assert_eq!(answer_of(&mut state, &mut sent), expected);
+        }
+    }
+    // denied only past the Length check
+    let mut state = sample();
+    state.level = 0;
+    assert!(!denied(&state, &medium(5), &buffer(21, &[0; 7])));
+    assert!(!denied(&state, &medium(4), &buffer(21, &[0; 8])));
+    assert!(denied(&state, &medium(5), &buffer(21, &[0; 8])));
+}
