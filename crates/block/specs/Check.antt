@@ -37,20 +37,4 @@ pub length-block : (file : List ℕ) (k : ℕ) → 512 * k + 512 ≤ length file
 unfolding blockAt
 length-block file k h = length-part file (512 * k) 512 h
 
-pub part-block : (file : List ℕ) (k at n : ℕ) → at + n ≤ 512 → part (blockAt file k) at n ≡ part file (512 * k + at) n
-unfolding blockAt
-part-block file k at n h = part-part file (512 * k) 512 at n h
-
-pub getD-block : (file : List ℕ) (k i : ℕ) → i < 512 → getD (blockAt file k) i 0 ≡ getD file (512 * k + i) 0
-unfolding blockAt
-getD-block file k i h = getD-part file (512 * k) 512 i 0 h
-
 -- ---- what the checks of n blocks say of each block, and of fewer
-
-pub sound-block : (file : List ℕ) (n k : ℕ) → soundTo file n ≡ true → k < n → sound (blockAt file k) k ≡ true
-unfolding soundTo
-sound-block file n k p h = all-at (λ (i : ℕ). sound (blockAt file i) i) n k p h
-
-pub sound-fewer : (file : List ℕ) (n m : ℕ) → soundTo file n ≡ true → m ≤ n → soundTo file m ≡ true
-unfolding soundTo
-sound-fewer file n m p h = all-by (λ (i : ℕ). sound (blockAt file i) i) m (λ i l. sound-block file n i p (omega arith))

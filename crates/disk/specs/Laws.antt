@@ -117,17 +117,6 @@ module _ (disk body : List ℕ) (h : Lent disk body (dataLength body)) where
   filled-reply : (s : List ℕ) → 136 + length s ≤ length body → Replied body (answerOf body .status) 0 (splice (withStatus body (ataCommand body) (answerOf body)) 136 s)
   filled-reply s m = with-data body (withStatus body (ataCommand body) (answerOf body)) s (answerOf body .status) m plain-reply
 
-  -- the body keeps its length and its bytes before Status, and a code of 0 shows the answer's status
-  pub served-reply : Replied body (answerOf body .status) (performed disk body .code) (performed disk body .body)
-  served-reply =
-      served-by disk body h (λ (s : Performed). Replied body (answerOf body .status) (s .code) (s .body))
-      (record {
-        refused = record { size = refl; front = λ i n k. refl; shown = λ z. absurd (omega arith) };
-        plain = λ _. plain-reply;
-        filled = λ s _ m. filled-reply s m;
-        written = λ _ _ _. plain-reply;
-      })
-
   -- the disk keeps its length
   pub disk-length : length (performed disk body .disk) ≡ 8192
   unfolding ataCommand
@@ -146,17 +135,6 @@ module _ (disk body : List ℕ) (h : Lent disk body (dataLength body)) where
   shows : (t : Bool) (reply : List ℕ) → Replied body (answerOf body .status) 0 reply → writing (ataCommand body) (answerOf body) ≡ t → writes 0 body reply ≡ t
   unfolding writes ataCommand
   shows t reply p e = rw (p .shown refl) e
-
-  -- a request that does not write leaves the whole disk
-  pub disk-kept : writes (performed disk body .code) body (performed disk body .body) ≡ false → performed disk body .disk ≡ disk
-  disk-kept =
-      served-by disk body h (λ (s : Performed). writes (s .code) body (s .body) ≡ false → s .disk ≡ disk)
-      (record {
-        refused = λ _. refl;
-        plain = λ _ _. refl;
-        filled = λ s _ m _. refl;
-        written = λ y _ _ n. absurd (true≢false (sym (shows true (withStatus body (ataCommand body) (answerOf body)) plain-reply y) ∙ n));
-      })
 
   -- each sector after the request
   pub sector-after : (k : ℕ) → sector (performed disk body .disk) k ≡ sectorAfter (performed disk body .code) body (performed disk body .body) k (sector disk k)

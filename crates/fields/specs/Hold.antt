@@ -24,12 +24,6 @@ range-kept a b minimum maximum k = cc
 pub fields-cleared : (phy : Phy) (n : PhyIdentifier) (p : ℕ) → fieldsHold (cleared phy) n p ≡ fieldsHold phy n p
 fields-cleared phy n p = fields-kept phy (cleared phy) n p (kept-cleared phy) (settings-cleared phy)
 
-pub fields-raised : (phy : Phy) (n : PhyIdentifier) (p : ℕ) → fieldsHold (raised phy) n p ≡ fieldsHold phy n p
-fields-raised phy n p = fields-kept phy (raised phy) n p (kept-raised phy) (settings-raised phy)
-
-pub fields-negotiated : (phy : Phy) (rate : ℕ) (n : PhyIdentifier) (p : ℕ) → fieldsHold (negotiatedAs phy rate) n p ≡ fieldsHold phy n p
-fields-negotiated phy rate n p = fields-kept phy (negotiatedAs phy rate) n p (kept-negotiated phy rate) (settings-negotiated phy rate)
-
 -- ---- another class and other programmed rates
 
 -- a test among others exchanged for one that holds: the middle, the last and the first of them

@@ -35,12 +35,6 @@ module _ {A : Type 0} where
       rw (e, as-paste d₀ at s from j (omega arith), as-paste d₀ at s from (j + 1) (omega arith), add-one, ← getD-drop)
       (paste-suc d₀ at (drop from s) j z (omega arith) (rw length-drop (omega arith)))
 
-  -- the copy's length, as a store asks it
-  pub copy-length : (d d₀ : List A) (at : ℕ) (s : List A) (from j : ℕ) → at + j ≤ length d₀ → from + j ≤ length s
-      → d ≡ splice d₀ at (part s from j) → length d ≡ length d₀
-  copy-length d d₀ at s from j h k e =
-      ap length e ∙ length-splice d₀ at (part s from j) (rw (length-part s from j k) h)
-
   pub copy-done : (d d₀ : List A) (at : ℕ) (s : List A) (from j n : ℕ) → j ≤ n → n ≤ j → d ≡ splice d₀ at (part s from j)
       → d ≡ splice d₀ at (part s from n)
   copy-done d d₀ at s from j n h k e = e ∙ ap (λ (i : ℕ). splice d₀ at (part s from i)) (le-antisymm h k)

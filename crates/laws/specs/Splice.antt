@@ -97,14 +97,6 @@ module _ {A : Type 0} where
       ∙ drop-drop (i - (at + length s)) (at + length s) d
       ∙ ap (λ (n : ℕ). drop n d) r
 
-  at-first : (l : List A) (i : ℕ) (z : A) → getD l i z ≡ getD (drop i l) 0 z
-  at-first l i z = sym (getD-drop i l 0 z ∙ rw add-zero)
-
-  pub get-above : (d : List A) (at : ℕ) (s : List A) (i : ℕ) (z : A) → at ≤ length d → at + length s ≤ i → getD (splice d at s) i z ≡ getD d i z
-  unfolding splice
-  get-above d at s i z h k =
-      at-first (splice d at s) i z ∙ ap (λ (l : List A). getD l 0 z) (drop-splice d at s i h k) ∙ sym (at-first d i z)
-
   -- a part as the end of what is taken
   part-front : (l : List A) (i n : ℕ) → take n (drop i l) ≡ drop i (take (i + n) l)
   part-front l i n = sym (drop-take i (i + n) l ∙ rw add-sub-cancel-left)

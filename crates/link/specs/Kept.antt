@@ -57,20 +57,6 @@ module _ (phy : Phy) where
       (settings-trans phy linked (raised linked) (settings-negotiated phy (ruleOf phy)) (settings-raised linked))
       (settings-negotiated phy (ruleOf phy))
 
-  -- "a link reset" keeps every byte of the entity but the negotiated rate
-  pub bytes-reset : (i : ℕ) → (i ≡ negotiatedPlace → ⊥) → byteOf (reset phy) i ≡ byteOf phy i
-  unfolding reset counted
-  bytes-reset i h =
-      either (λ (b : Phy). byteOf b i ≡ byteOf phy i) (eqb (ruleOf phy) linkRateFailed)
-      (rw (entity-raised linked) (bytes-negotiated phy (ruleOf phy) i h))
-      (bytes-negotiated phy (ruleOf phy) i h)
-
-  pub counters-reset : reset phy .counters ≡ cond (eqb (ruleOf phy) linkRateFailed) (raised phy .counters) (phy .counters)
-  unfolding reset counted
-  counters-reset =
-      by-bool (λ (t : Bool). cond t (raised linked) linked .counters ≡ cond t (raised phy .counters) (phy .counters))
-      (rw (counters-raised, counters-raised, counters-negotiated)) (counters-negotiated phy (ruleOf phy)) (eqb (ruleOf phy) linkRateFailed)
-
   pub negotiated-reset : length (phy .entity) ≡ 64 → negotiatedOf (reset phy) ≡ ruleOf phy
   unfolding reset counted
   negotiated-reset e =
@@ -94,14 +80,6 @@ module _ (phy : Phy) where
   pub settings-disabled : Settings phy (disabled phy)
   unfolding disabled
   settings-disabled = settings-negotiated phy phyDisabled
-
-  pub bytes-disabled : (i : ℕ) → (i ≡ negotiatedPlace → ⊥) → byteOf (disabled phy) i ≡ byteOf phy i
-  unfolding disabled
-  bytes-disabled i h = bytes-negotiated phy phyDisabled i h
-
-  pub counters-disabled : disabled phy .counters ≡ phy .counters
-  unfolding disabled
-  counters-disabled = counters-negotiated phy phyDisabled
 
   pub negotiated-disabled : length (phy .entity) ≡ 64 → negotiatedOf (disabled phy) ≡ phyDisabled
   unfolding disabled

@@ -40,11 +40,3 @@ noPhy = record { entity = []; counters = []; signature = []; held = 0; fixed = 0
 pub length-entity : (block : List ℕ) → length block ≡ 512 → length (phyOf block .entity) ≡ 64
 unfolding phyOf
 length-entity block e = length-part block 0 64 (omega arith)
-
-pub length-counters : (block : List ℕ) → length (phyOf block .counters) ≡ 4
-unfolding phyOf countersAt
-length-counters block = refl
-
-pub length-signature : (block : List ℕ) → length block ≡ 512 → length (phyOf block .signature) ≡ 20
-unfolding phyOf
-length-signature block e = length-part block 80 20 (omega arith)

@@ -29,14 +29,6 @@ pub negotiated-cleared : (phy : Phy) → negotiatedOf (cleared phy) ≡ negotiat
 unfolding cleared negotiatedOf
 negotiated-cleared phy = refl
 
-pub entity-cleared : (phy : Phy) → cleared phy .entity ≡ phy .entity
-unfolding cleared
-entity-cleared phy = refl
-
-pub counters-cleared : (phy : Phy) → cleared phy .counters ≡ 0 ∷ 0 ∷ 0 ∷ 0 ∷ []
-unfolding cleared
-counters-cleared phy = refl
-
 -- "adds one to the phy reset problem counter"
 pub kept-raised : (phy : Phy) → Kept phy (raised phy)
 unfolding raised
@@ -123,20 +115,6 @@ module _ (phy : Phy) (class minimum maximum : ℕ) where
 
   abbrev ranged : Phy
   ranged = programmedAs classed minimumPlace minimum
-
-  pub bytes-configured : (i : ℕ) → (i ≡ classPlace → ⊥) → (i ≡ minimumPlace → ⊥) → (i ≡ maximumPlace → ⊥)
-      → byteOf (configured phy class minimum maximum) i ≡ byteOf phy i
-  unfolding configured
-  bytes-configured i a b c =
-      programmed-other ranged maximumPlace maximum i c ∙ programmed-other classed minimumPlace minimum i b ∙ byte-other phy classPlace class i a
-
-  pub negotiated-configured : negotiatedOf (configured phy class minimum maximum) ≡ negotiatedOf phy
-  unfolding negotiatedOf
-  negotiated-configured = bytes-configured negotiatedPlace (λ q. omega arith) (λ q. omega arith) (λ q. omega arith)
-
-  pub counters-configured : configured phy class minimum maximum .counters ≡ phy .counters
-  unfolding configured programmedAs stored
-  counters-configured = refl
 
   module _ (e : length (phy .entity) ≡ 64) where
     kept-classed : Kept phy classed

@@ -57,9 +57,6 @@ kept-refl a =
       highest = refl;
     }
 
-pub settings-refl : (a : Phy) → Settings a a
-settings-refl a = record { class = refl; minimum = refl; maximum = refl }
-
 pub kept-trans : (a b c : Phy) → Kept a b → Kept b c → Kept a c
 kept-trans a b c p q =
     record {

@@ -71,22 +71,6 @@ osIndex rows a os = first (λ i. sameBytes (rowAt rows i .os) os) a
 
 -- ---- zero from a on is what it says of each row
 
-made : List ℕ → List ℕ → Row
-made sas os = record { sas = sas; os = os }
-
-zero-eq : (r : Row) → rowZero r ≡ true → r ≡ zeroRow
-unfolding rowZero made
-zero-eq r p =
-    ap₂ made (same-eq (r .sas) (replicate 16 0) (both-left (sameBytes (r .sas) (replicate 16 0)) (sameBytes (r .os) (replicate 4 0)) p))
-    (same-eq (r .os) (replicate 4 0) (both-right (sameBytes (r .sas) (replicate 16 0)) (sameBytes (r .os) (replicate 4 0)) p))
-
-pub zero-at : (rows : List Row) (a i : ℕ) → zeroFrom rows a ≡ true → a ≤ i → i < 64 → rowAt rows i ≡ zeroRow
-unfolding zeroFrom
-zero-at rows a i p h l =
-    let e : a + (i - a) ≡ i = omega arith in
-    let q : rowZero (rowAt rows (a + (i - a))) ≡ true = all-at (λ (k : ℕ). rowZero (rowAt rows (a + k))) (64 - a) (i - a) p (omega arith) in
-    zero-eq (rowAt rows i) (rw e at q)
-
 pub zero-by : (rows : List Row) (a : ℕ) → ((i : ℕ) → a ≤ i → i < 64 → rowAt rows i ≡ zeroRow) → zeroFrom rows a ≡ true
 unfolding zeroFrom rowZero
 zero-by rows a h =
