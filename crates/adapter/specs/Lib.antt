@@ -1,3 +1,2 @@
 pub mod Adapter
 pub mod Changed
-pub mod Store

@@ -1,13 +1,10 @@
 -- Blocks and their checks (document 01, "Adapter file"), and laws about them. Assumes nothing.
-use mathlib.Core.Path.{_≡_}
-use mathlib.Core.Bool.{Bool, true}
+use mathlib.Core.Bool.{Bool}
 use mathlib.Core.List.{List}
-use Prim.Native.Nat.{ℕ, _+_, _*_, _%_, _<_, _≤_}
-use native.Mathlib.Omega.{arith}
+use Prim.Native.Nat.{ℕ, _+_, _*_, _%_}
 use lib.Dec.{eqb}
-use lib.ListN.{length, getD}
-use Rattle.laws.specs.All.{allTo, all-at, all-by}
-use Rattle.laws.specs.Splice.{part, length-part, getD-part, part-part}
+use Rattle.laws.specs.All.{allTo}
+use Rattle.laws.specs.Splice.{part}
 use Rattle.laws.specs.Sum.{sumTo}
 use Rattle.wire.specs.Number.{number}
 
@@ -30,11 +27,3 @@ sound block k = eqb (number (part block 508 4)) (checkOf block k)
 -- each of the first n blocks of a file has its check
 unfoldable pub soundTo : List ℕ → ℕ → Bool
 soundTo file n = allTo (λ k. sound (blockAt file k) k) n
-
--- ---- what stands in a block is what stands in the file
-
-pub length-block : (file : List ℕ) (k : ℕ) → 512 * k + 512 ≤ length file → length (blockAt file k) ≡ 512
-unfolding blockAt
-length-block file k h = length-part file (512 * k) 512 h
-
--- ---- what the checks of n blocks say of each block, and of fewer

@@ -1,13 +1,5 @@
 pub mod Run
 pub mod LastWriter
 pub mod Claim
-pub mod Steps
-pub mod Ways
-pub mod Moved
-pub mod Effect
-pub mod PhyEffects
-pub mod DiskEffect
-pub mod Reached
-pub mod Demand3
-pub mod Conversions
+pub mod RoundTrip
 pub mod Starred

@@ -1,5 +1,3 @@
 pub mod Disk
-pub mod Stores
-pub mod Ways
 pub mod Laws
 pub mod Starred

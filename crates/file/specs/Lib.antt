@@ -1,5 +1,3 @@
 pub mod File
 pub mod Steps
 pub mod Parse
-pub mod Laws
-pub mod Accepted

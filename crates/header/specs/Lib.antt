@@ -1,4 +1,3 @@
 pub mod Form
 pub mod Table
 pub mod Header
-pub mod Laws

@@ -1,8 +1,7 @@
 -- The starred file lengths of document 01 ("Starred cases"): p = 4 with 25 and with 26 rows. Assumes nothing.
-use mathlib.Core.Path.{refl}
 use mathlib.Core.List.{List, [], _∷_}
 use Prim.Native.Nat.{ℕ}
-use Rattle.laws.specs.Cases.{Case, Holds, All}
+use Rattle.laws.specs.Cases.{Case}
 use Rattle.layout.specs.Layout.{fileLength}
 
 -- the counts p and a, with the length of the file
@@ -11,6 +10,3 @@ lengthFor p a n = record { gives = fileLength p a ∷ []; said = n ∷ [] }
 
 abbrev pub layoutCases : List Case
 layoutCases = lengthFor 4 25 3072 ∷ lengthFor 4 26 3584 ∷ []
-
-pub layoutStarred : All Holds layoutCases
-layoutStarred = (refl, (refl, tt))

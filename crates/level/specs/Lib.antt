@@ -1,5 +1,4 @@
 pub mod Text
 pub mod Need
 pub mod Walk
-pub mod Bound
 pub mod Starred

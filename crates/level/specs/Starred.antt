@@ -1,14 +1,11 @@
 -- The starred texts and needs of document 01 ("Starred cases"), by computation on the definitions. Assumes nothing.
-use mathlib.Core.Path.{refl}
 use mathlib.Core.List.{List, [], _∷_}
 use Prim.Native.Nat.{ℕ}
 use Prim.Native.String.{String}
 use Rattle.laws.specs.Ascii.{ascii}
-use Rattle.laws.specs.Splice.{part}
-use Rattle.laws.specs.Cases.{Case, Holds, All}
-use Rattle.wire.specs.Same.{sameBytes}
-use Rattle.level.specs.Text.{textLevel, entries, begins, ours, exact}
-use Rattle.level.specs.Need.{needOf, among}
+use Rattle.laws.specs.Cases.{Case}
+use Rattle.level.specs.Text.{textLevel}
+use Rattle.level.specs.Need.{needOf}
 
 -- a text with its call number and level, and a command with the level it needs
 abbrev pub text : String → ℕ → ℕ → Case
@@ -27,7 +24,3 @@ levelCases =
     ∷ needCase 0xa0 3
     ∷ needCase 0x20 1
     ∷ []
-
-pub levelStarred : All Holds levelCases
-unfolding textLevel entries begins ours exact needOf among sameBytes part ascii
-levelStarred = (refl, (refl, (refl, (refl, (refl, (refl, (refl, tt)))))))

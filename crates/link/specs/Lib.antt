@@ -1,4 +1,3 @@
 pub mod Rule
-pub mod Kept
 pub mod All
 pub mod Starred

@@ -1,12 +1,10 @@
 -- The starred links of document 01 ("Starred cases"), by computation on the definitions. Each is the rule of a phy. Assumes nothing.
-use mathlib.Core.Path.{refl}
 use mathlib.Core.List.{List, [], _∷_, _++_}
 use Prim.Native.Nat.{ℕ, _+_, _*_}
 use lib.ListN.{replicate}
-use Rattle.laws.specs.Cases.{Case, Holds, All}
+use Rattle.laws.specs.Cases.{Case}
 use Rattle.phy.specs.declared.Phy.{Phy}
-use Rattle.phy.specs.Entity.{attachedType, noDevice, programmedMinimum, programmedMaximum}
-use Rattle.link.specs.Rule.{inBoth, ratesRule, ruleOf}
+use Rattle.link.specs.Rule.{ruleOf}
 
 -- a phy with an end device attached: its programmed range, within hardware that has both rates, and the device's range
 abbrev pub phyWith : ℕ → ℕ → ℕ → ℕ → Phy
@@ -27,7 +25,3 @@ linkCase minimum maximum lowest highest rate = record { gives = ruleOf (phyWith 
 
 abbrev pub linkCases : List Case
 linkCases = linkCase 8 8 9 9 2 ∷ linkCase 8 9 8 9 9 ∷ []
-
-pub linkStarred : All Holds linkCases
-unfolding ruleOf ratesRule inBoth noDevice attachedType programmedMinimum programmedMaximum
-linkStarred = (refl, (refl, tt))

@@ -1,2 +1,1 @@
 pub mod Passthrough
-pub mod Laws

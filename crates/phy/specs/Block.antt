@@ -1,10 +1,8 @@
 -- The phy that a block of the adapter file holds (document 01, "Adapter file"). Assumes nothing.
-use mathlib.Core.Path.{_≡_, refl}
 use mathlib.Core.List.{List, [], _∷_}
 use Prim.Native.Nat.{ℕ, _+_}
-use native.Mathlib.Omega.{arith}
-use lib.ListN.{length, getD, replicate}
-use Rattle.laws.specs.Splice.{part, length-part}
+use lib.ListN.{getD, replicate}
+use Rattle.laws.specs.Splice.{part}
 use Rattle.wire.specs.Number.{number}
 use Rattle.phy.specs.declared.Phy.{Phy}
 
@@ -34,9 +32,3 @@ zeroPhy = phyOf (replicate 512 0)
 -- what reading past the end of a list of phys gives
 abbrev pub noPhy : Phy
 noPhy = record { entity = []; counters = []; signature = []; held = 0; fixed = 0; lowest = 0; highest = 0 }
-
--- ---- how long the arrays are
-
-pub length-entity : (block : List ℕ) → length block ≡ 512 → length (phyOf block .entity) ≡ 64
-unfolding phyOf
-length-entity block e = length-part block 0 64 (omega arith)

@@ -1,16 +1,13 @@
 -- Address rows (document 01, "Adapter file"), and what follows where they are zero. Assumes nothing.
-use mathlib.Core.Path.{_≡_, ap₂}
-use mathlib.Core.Bool.{Bool, true, not, _&&_, _||_}
+use mathlib.Core.Bool.{Bool, not, _&&_, _||_}
 use mathlib.Core.List.{List, []}
-use Prim.Native.Nat.{ℕ, _+_, _-_, _*_, _<_, _≤_}
-use native.Mathlib.Omega.{arith}
+use Prim.Native.Nat.{ℕ, _+_, _-_, _*_}
 use lib.ListN.{getD, replicate}
-use Rattle.laws.specs.Choice.{both, both-left, both-right}
-use Rattle.laws.specs.All.{allTo, all-at, all-by}
+use Rattle.laws.specs.All.{allTo}
 use Rattle.laws.specs.Fill.{listTo}
 use Rattle.laws.specs.First.{first}
 use Rattle.laws.specs.Splice.{part}
-use Rattle.wire.specs.Same.{sameBytes, same-refl, same-eq}
+use Rattle.wire.specs.Same.{sameBytes}
 
 -- a row: its SAS address and LUN, and its four OS bytes, "host index, path, target, LUN"
 pub record Row : Type 0 where
@@ -68,11 +65,3 @@ sasIndex rows a sas = first (λ i. sameBytes (rowAt rows i .sas) sas) a
 
 unfoldable pub osIndex : List Row → ℕ → List ℕ → ℕ
 osIndex rows a os = first (λ i. sameBytes (rowAt rows i .os) os) a
-
--- ---- zero from a on is what it says of each row
-
-pub zero-by : (rows : List Row) (a : ℕ) → ((i : ℕ) → a ≤ i → i < 64 → rowAt rows i ≡ zeroRow) → zeroFrom rows a ≡ true
-unfolding zeroFrom rowZero
-zero-by rows a h =
-    all-by (λ (k : ℕ). rowZero (rowAt rows (a + k))) (64 - a)
-    (λ k l. rw (h (a + k) (omega arith) (omega arith)) (both (sameBytes (replicate 16 0) (replicate 16 0)) (sameBytes (replicate 4 0) (replicate 4 0)) (same-refl (replicate 16 0)) (same-refl (replicate 4 0))))

@@ -13,9 +13,6 @@ counterBytes c = bytes 4 (getD c 0 0) ++ (bytes 4 (getD c 1 0) ++ (bytes 4 (getD
 abbrev pub lastBytes : Phy → List ℕ
 lastBytes phy = phy .held ∷ phy .fixed ∷ phy .lowest ∷ phy .highest ∷ []
 
-unfoldable pub phyBytes : Phy → List ℕ
-phyBytes phy = phy .entity ++ (counterBytes (phy .counters) ++ (phy .signature ++ lastBytes phy))
-
 -- the same, field by field, over a list that has as many
 unfoldable pub written : List ℕ → Phy → List ℕ
 written d phy =

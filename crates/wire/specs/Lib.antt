@@ -1,5 +1,2 @@
 pub mod Number
 pub mod Same
-pub mod Words
-pub mod Zero
-pub mod Sixteens

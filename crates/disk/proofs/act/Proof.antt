@@ -1,7 +1,7 @@
 -- `disk::act` meets its contract. Assumes nothing.
 use Rattle.laws.specs.Choice.{picks}
 use Rattle.disk.specs.Disk.{acted}
-use Rattle.disk.specs.Stores.{performs-by, rooms}
+use Rattle.disk.proofs.StoresLaws.{performs-by, rooms}
 use borrow.Author.Needs.{needs}
 use Rattle.disk.proofs.act.Statement.{statement}
 use Rattle.disk.proofs.act.Tie as tie

@@ -1,5 +1,5 @@
 -- `disk::command` meets its contract. Assumes nothing.
-use Rattle.disk.specs.Stores.{asked-lent}
+use Rattle.disk.proofs.StoresLaws.{asked-lent}
 use Rattle.disk.specs.Disk.{performed}
 use borrow.Author.Needs.{needs}
 use Rattle.disk.proofs.command.Statement.{statement}

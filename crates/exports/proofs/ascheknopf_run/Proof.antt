@@ -1,5 +1,5 @@
 -- `exports::ascheknopf_run` meets its contract. Assumes nothing.
-use Rattle.exports.specs.Laws.{opened-ran}
+use Rattle.exports.proofs.Laws.{opened-ran}
 use borrow.Author.Needs.{needs}
 use Rattle.exports.proofs.ascheknopf_run.Statement.{statement}
 use Rattle.exports.proofs.ascheknopf_run.Tie as tie

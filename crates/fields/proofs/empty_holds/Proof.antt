@@ -1,6 +1,6 @@
 -- `fields::empty_holds` meets its contract. Assumes nothing.
 use Rattle.phy.specs.Entity.{attachedOf}
-use Rattle.phy.specs.Field.{within}
+use Rattle.phy.proofs.FieldLaws.{within}
 use Rattle.fields.specs.Rules.{emptyHolds}
 use borrow.Author.Needs.{needs}
 use Rattle.fields.proofs.empty_holds.Statement.{statement}

@@ -1,6 +1,6 @@
 -- `fields::signature_zero` meets its contract. Assumes nothing.
-use Rattle.phy.specs.Field.{within}
-use Rattle.fields.specs.Rules.{zero-all}
+use Rattle.phy.proofs.FieldLaws.{within}
+use Rattle.fields.proofs.RulesLaws.{zero-all}
 use borrow.Author.Needs.{needs}
 use Rattle.fields.proofs.signature_zero.Statement.{statement}
 use Rattle.fields.proofs.signature_zero.Tie as tie

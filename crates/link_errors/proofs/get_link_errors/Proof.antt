@@ -1,6 +1,6 @@
 -- `link_errors::get_link_errors` meets its contract. Assumes nothing.
 use Rattle.link_errors.specs.LinkErrors.{linkErrors}
-use Rattle.tables.specs.Laws.{exists-below}
+use Rattle.tables.proofs.Laws.{exists-below}
 use borrow.Author.Needs.{needs}
 use Rattle.laws.specs.Choice.{picks}
 use Rattle.link_errors.proofs.get_link_errors.Statement.{statement}

@@ -1,5 +1,5 @@
 -- `link_errors::show_counters` meets its contract. Assumes nothing.
-use Rattle.link_errors.specs.Laws.{report-by}
+use Rattle.link_errors.proofs.Laws.{report-by}
 use borrow.Author.Needs.{needs}
 use Rattle.link_errors.proofs.show_counters.Statement.{statement}
 use Rattle.link_errors.proofs.show_counters.Tie as tie

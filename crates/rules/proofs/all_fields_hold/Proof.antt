@@ -1,5 +1,5 @@
 -- `rules::all_fields_hold` meets its contract. Assumes nothing.
-use Rattle.rules.specs.Fields.{fields-by}
+use Rattle.rules.proofs.FieldsLaws.{fields-by}
 use borrow.Author.Needs.{needs}
 use Rattle.rules.proofs.all_fields_hold.Statement.{statement}
 use Rattle.rules.proofs.all_fields_hold.Tie as tie

@@ -1,5 +1,5 @@
 -- `rules::phys_zero_from` meets its contract. Assumes nothing.
-use Rattle.rules.specs.Past.{phys-past}
+use Rattle.rules.proofs.PastLaws.{phys-past}
 use borrow.Author.Needs.{needs}
 use Rattle.rules.proofs.phys_zero_from.Statement.{statement}
 use Rattle.rules.proofs.phys_zero_from.Tie as tie

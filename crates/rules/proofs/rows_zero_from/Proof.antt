@@ -1,5 +1,5 @@
 -- `rules::rows_zero_from` meets its contract. Assumes nothing.
-use Rattle.rules.specs.Past.{rows-past-lent}
+use Rattle.rules.proofs.PastLaws.{rows-past-lent}
 use borrow.Author.Needs.{needs}
 use Rattle.rules.proofs.rows_zero_from.Statement.{statement}
 use Rattle.rules.proofs.rows_zero_from.Tie as tie

@@ -1,5 +1,5 @@
 -- `rules::zero_past` meets its contract. Assumes nothing.
-use Rattle.rules.specs.Past.{past-by}
+use Rattle.rules.proofs.PastLaws.{past-by}
 use borrow.Author.Needs.{needs}
 use Rattle.rules.proofs.zero_past.Statement.{statement}
 use Rattle.rules.proofs.zero_past.Tie as tie

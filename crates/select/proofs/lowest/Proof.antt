@@ -1,5 +1,5 @@
 -- `select::lowest` meets its contract. Assumes nothing.
-use Rattle.select.specs.Laws.{identifier-by}
+use Rattle.select.proofs.Laws.{identifier-by}
 use borrow.Author.Needs.{needs}
 use Rattle.select.proofs.lowest.Statement.{statement}
 use Rattle.select.proofs.lowest.Tie as tie

@@ -1,6 +1,6 @@
 -- `select::select_below` meets its contract. Assumes nothing.
 use Rattle.select.specs.Select.{selectBy}
-use Rattle.select.specs.Laws.{selection-portless}
+use Rattle.select.proofs.Laws.{selection-portless}
 use borrow.Author.Needs.{needs}
 use Rattle.select.proofs.select_below.Statement.{statement}
 use Rattle.select.proofs.select_below.Tie as tie

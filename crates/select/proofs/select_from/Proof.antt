@@ -1,5 +1,5 @@
 -- `select::select_from` meets its contract. Assumes nothing.
-use Rattle.select.specs.Laws.{selection-past}
+use Rattle.select.proofs.Laws.{selection-past}
 use borrow.Author.Needs.{needs}
 use Rattle.select.proofs.select_from.Statement.{statement}
 use Rattle.select.proofs.select_from.Tie as tie

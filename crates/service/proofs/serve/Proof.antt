@@ -1,5 +1,5 @@
 -- `service::serve` meets its contract. Assumes nothing.
-use Rattle.service.specs.Laws.{changed-by, reported-by, passed-by, passthrough-lent, room-and-data, structure-part}
+use Rattle.service.proofs.Laws.{changed-by, reported-by, passed-by, passthrough-lent, room-and-data, structure-part}
 use Rattle.service.specs.Serve.{served}
 use Rattle.header.specs.Table.{structureSize}
 use borrow.Author.Needs.{needs}

@@ -1,6 +1,6 @@
 -- `set_phy_info::set_checked` meets its contract. Assumes nothing.
 use Rattle.set_phy_info.specs.SetPhyInfo.{setChecked}
-use Rattle.set_phy_info.specs.Laws.{minimum-below, maximum-below}
+use Rattle.set_phy_info.proofs.Laws.{minimum-below, maximum-below}
 use borrow.Author.Needs.{needs}
 use Rattle.laws.specs.Choice.{picks}
 use Rattle.set_phy_info.proofs.set_checked.Statement.{statement}

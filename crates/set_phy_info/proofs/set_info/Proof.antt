@@ -1,7 +1,7 @@
 -- `set_phy_info::set_info` meets its contract. Assumes nothing.
 use Rattle.set_phy_info.specs.SetPhyInfo.{phySet}
-use Rattle.set_phy_info.specs.Laws.{info-by}
-use Rattle.tables.specs.Laws.{exists-below}
+use Rattle.set_phy_info.proofs.Laws.{info-by}
+use Rattle.tables.proofs.Laws.{exists-below}
 use borrow.Author.Needs.{needs}
 use Rattle.laws.specs.Choice.{picks}
 use Rattle.set_phy_info.proofs.set_info.Statement.{statement}

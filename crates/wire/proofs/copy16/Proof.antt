@@ -1,5 +1,5 @@
 -- `wire::copy16` meets its contract. Assumes nothing.
-use Rattle.wire.specs.Sixteens.{sixteen-moved}
+use Rattle.wire.proofs.SixteensLaws.{sixteen-moved}
 use borrow.Author.Needs.{needs}
 use Rattle.wire.proofs.copy16.Statement.{statement}
 use Rattle.wire.proofs.copy16.Tie as tie

@@ -1,5 +1,5 @@
 -- `wire::copy_part` meets its contract. Assumes nothing.
-use Rattle.wire.specs.Sixteens.{parted-copy}
+use Rattle.wire.proofs.SixteensLaws.{parted-copy}
 use borrow.Author.Needs.{needs}
 use Rattle.wire.proofs.copy_part.Statement.{statement}
 use Rattle.wire.proofs.copy_part.Tie as tie

@@ -3,7 +3,7 @@ use mathlib.Core.Path.{_≡_}
 use Prim.Native.Nat.{_*_, _-_, _≤_}
 use lib.ListN.{length}
 use Rattle.laws.specs.Splice.{part, splice}
-use Rattle.wire.specs.Sixteens.{sixteens-loop}
+use Rattle.wire.proofs.SixteensLaws.{sixteens-loop}
 use Rattle.wire.proofs.copy_sixteens.Statement.{statement}
 use Rattle.wire.proofs.copy_sixteens.Tie as tie
 

@@ -1,5 +1,5 @@
 -- `wire::few_zero` meets its contract. Assumes nothing.
-use Rattle.wire.specs.Zero.{zero-by-sum}
+use Rattle.wire.proofs.ZeroLaws.{zero-by-sum}
 use borrow.Author.Needs.{needs}
 use Rattle.wire.proofs.few_zero.Statement.{statement}
 use Rattle.wire.proofs.few_zero.Tie as tie

@@ -1,5 +1,5 @@
 -- `wire::many_zero` meets its contract. Assumes nothing.
-use Rattle.wire.specs.Zero.{zero-by-largest}
+use Rattle.wire.proofs.ZeroLaws.{zero-by-largest}
 use borrow.Author.Needs.{needs}
 use Rattle.wire.proofs.many_zero.Statement.{statement}
 use Rattle.wire.proofs.many_zero.Tie as tie

@@ -1,5 +1,5 @@
 -- `wire::read16` meets its contract. Assumes nothing.
-use Rattle.wire.specs.Number.{number-two}
+use Rattle.wire.proofs.NumberLaws.{number-two}
 use borrow.Author.Needs.{needs}
 use Rattle.wire.proofs.read16.Statement.{statement}
 use Rattle.wire.proofs.read16.Tie as tie

@@ -1,5 +1,5 @@
 -- `wire::read32` meets its contract. Assumes nothing.
-use Rattle.wire.specs.Number.{number-four}
+use Rattle.wire.proofs.NumberLaws.{number-four}
 use borrow.Author.Needs.{needs}
 use Rattle.wire.proofs.read32.Statement.{statement}
 use Rattle.wire.proofs.read32.Tie as tie

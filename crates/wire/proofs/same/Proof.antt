@@ -1,5 +1,5 @@
 -- `wire::same` meets its contract. Assumes nothing.
-use Rattle.wire.specs.Same.{same-whole, same-longer}
+use Rattle.wire.proofs.SameLaws.{same-whole, same-longer}
 use borrow.Author.Needs.{needs}
 use Rattle.wire.proofs.same.Statement.{statement}
 use Rattle.wire.proofs.same.Tie as tie

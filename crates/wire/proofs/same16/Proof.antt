@@ -1,5 +1,5 @@
 -- `wire::same16` meets its contract. Assumes nothing.
-use Rattle.wire.specs.Words.{sixteen-same}
+use Rattle.wire.proofs.WordsLaws.{sixteen-same}
 use borrow.Author.Needs.{needs}
 use Rattle.wire.proofs.same16.Statement.{statement}
 use Rattle.wire.proofs.same16.Tie as tie

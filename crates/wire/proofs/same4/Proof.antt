@@ -1,7 +1,7 @@
 -- `wire::same4` meets its contract: what a slice holds are bytes. Assumes nothing.
 use native.Mathlib.Omega.{arith}
 use borrow.Author.Needs.{needs}
-use Rattle.wire.specs.Words.{words-same}
+use Rattle.wire.proofs.WordsLaws.{words-same}
 use Rattle.wire.proofs.same4.Statement.{statement}
 use Rattle.wire.proofs.same4.Tie as tie
 

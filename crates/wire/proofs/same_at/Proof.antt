@@ -1,5 +1,5 @@
 -- `wire::same_at` meets its contract. Assumes nothing.
-use Rattle.wire.specs.Same.{same-past, same-short}
+use Rattle.wire.proofs.SameLaws.{same-past, same-short}
 use borrow.Author.Needs.{needs}
 use Rattle.wire.proofs.same_at.Statement.{statement}
 use Rattle.wire.proofs.same_at.Tie as tie

@@ -4,7 +4,7 @@ use mathlib.Core.Bool.{true}
 use Prim.Native.Nat.{_-_, _≤_}
 use lib.ListN.{length}
 use Rattle.laws.specs.All.{allTo}
-use Rattle.wire.specs.Same.{agree, same-loop}
+use Rattle.wire.proofs.SameLaws.{agree, same-loop}
 use Rattle.wire.proofs.same_from.Statement.{statement}
 use Rattle.wire.proofs.same_from.Tie as tie
 

@@ -1,5 +1,5 @@
 -- `wire::write16` meets its contract. Assumes nothing.
-use Rattle.wire.specs.Number.{bytes-two}
+use Rattle.wire.proofs.NumberLaws.{bytes-two}
 use lib.ListN.{length-set}
 use native.Mathlib.Omega.{arith}
 use borrow.Author.Needs.{needs}

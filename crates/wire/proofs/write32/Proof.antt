@@ -1,5 +1,5 @@
 -- `wire::write32` meets its contract. Assumes nothing.
-use Rattle.wire.specs.Number.{bytes-four}
+use Rattle.wire.proofs.NumberLaws.{bytes-four}
 use lib.ListN.{length-set}
 use native.Mathlib.Omega.{arith}
 use borrow.Author.Needs.{needs}

@@ -1,7 +1,7 @@
 -- `disk::reply::status` meets its contract. Assumes nothing.
 use native.Mathlib.Omega.{arith}
 use lib.ListN.{length-set}
-use Rattle.disk.specs.Stores.{status-built}
+use Rattle.disk.proofs.StoresLaws.{status-built}
 use borrow.Author.Needs.{needs}
 use Rattle.disk.proofs.reply.status.Statement.{statement}
 use Rattle.disk.proofs.reply.status.Tie as tie

@@ -1,7 +1,7 @@
 -- `dispatch::handle::check_and_serve` meets its contract. Assumes nothing.
-use Rattle.header.specs.Laws.{access-room}
+use Rattle.header.proofs.Laws.{access-room}
 use Rattle.dispatch.specs.Request.{answered}
-use Rattle.dispatch.specs.Laws.{refused-by}
+use Rattle.dispatch.proofs.Laws.{refused-by}
 use borrow.Author.Needs.{needs}
 use Rattle.laws.specs.Choice.{picks}
 use Rattle.dispatch.proofs.handle.check_and_serve.Statement.{statement}

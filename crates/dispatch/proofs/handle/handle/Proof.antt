@@ -1,5 +1,5 @@
 -- `dispatch::handle::handle` meets its contract. Assumes nothing.
-use Rattle.dispatch.specs.Laws.{heard-state, heard-medium, heard-room, untouched-by}
+use Rattle.dispatch.proofs.Laws.{heard-state, heard-medium, heard-room, untouched-by}
 use Rattle.dispatch.specs.Request.{handled}
 use borrow.Author.Needs.{needs}
 use Rattle.laws.specs.Choice.{picks}

@@ -1,6 +1,6 @@
 -- `dispatch::handle::reply` meets its contract. Assumes nothing.
-use Rattle.state.specs.Laws.{lent-size}
-use Rattle.dispatch.specs.Laws.{lent-phys, lent-rows, lent-medium, reply-back}
+use Rattle.state.proofs.Laws.{lent-size}
+use Rattle.dispatch.proofs.Laws.{lent-phys, lent-rows, lent-medium, reply-back}
 use borrow.Author.Needs.{needs}
 use Rattle.dispatch.proofs.handle.reply.Statement.{statement}
 use Rattle.dispatch.proofs.handle.reply.Tie as tie

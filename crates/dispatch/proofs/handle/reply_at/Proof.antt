@@ -1,5 +1,5 @@
 -- `dispatch::handle::reply_at` meets its contract. Assumes nothing.
-use Rattle.dispatch.specs.Laws.{reply-by}
+use Rattle.dispatch.proofs.Laws.{reply-by}
 use borrow.Author.Needs.{needs}
 use Rattle.dispatch.proofs.handle.reply_at.Statement.{statement}
 use Rattle.dispatch.proofs.handle.reply_at.Tie as tie

@@ -1,5 +1,5 @@
 -- `dispatch::handle::request` meets its contract. Assumes nothing.
-use Rattle.dispatch.specs.Laws.{request-whole, request-other}
+use Rattle.dispatch.proofs.Laws.{request-whole, request-other}
 use borrow.Author.Needs.{needs}
 use Rattle.dispatch.proofs.handle.request.Statement.{statement}
 use Rattle.dispatch.proofs.handle.request.Tie as tie

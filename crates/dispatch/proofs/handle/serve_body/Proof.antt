@@ -1,5 +1,5 @@
 -- `dispatch::handle::serve_body` meets its contract. Assumes nothing.
-use Rattle.dispatch.specs.Laws.{body-room, body-back}
+use Rattle.dispatch.proofs.Laws.{body-room, body-back}
 use borrow.Author.Needs.{needs}
 use Rattle.dispatch.proofs.handle.serve_body.Statement.{statement}
 use Rattle.dispatch.proofs.handle.serve_body.Tie as tie

@@ -1,5 +1,5 @@
 -- `dispatch::handle::write_code` meets its contract. Assumes nothing.
-use Rattle.dispatch.specs.Laws.{code-written}
+use Rattle.dispatch.proofs.Laws.{code-written}
 use borrow.Author.Needs.{needs}
 use Rattle.dispatch.proofs.handle.write_code.Statement.{statement}
 use Rattle.dispatch.proofs.handle.write_code.Tie as tie

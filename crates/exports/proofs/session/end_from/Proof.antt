@@ -1,5 +1,5 @@
 -- `exports::session::end_from` meets its contract. Assumes nothing.
-use Rattle.exports.specs.Laws.{end-short, end-cut, end-whole}
+use Rattle.exports.proofs.Laws.{end-short, end-cut, end-whole}
 use borrow.Author.Needs.{needs}
 use Rattle.exports.proofs.session.end_from.Statement.{statement}
 use Rattle.exports.proofs.session.end_from.Tie as tie

@@ -1,5 +1,5 @@
 -- `exports::session::record_sized` meets its contract. Assumes nothing.
-use Rattle.exports.specs.Laws.{sized-left}
+use Rattle.exports.proofs.Laws.{sized-left}
 use borrow.Author.Needs.{needs}
 use Rattle.exports.proofs.session.record_sized.Statement.{statement}
 use Rattle.exports.proofs.session.record_sized.Tie as tie

@@ -6,7 +6,7 @@ use Rattle.state.specs.State.{stateSize, stateOf}
 use Rattle.service.specs.Serve.{storeOf}
 use Rattle.dispatch.specs.Request.{point, stateNumber}
 use Rattle.exports.specs.Session.{ranFrom}
-use Rattle.exports.specs.Laws.{behind, line-lent, request-there, number-next, run-starts, run-ends, run-full, run-goes-on}
+use Rattle.exports.proofs.Laws.{behind, line-lent, request-there, number-next, run-starts, run-ends, run-full, run-goes-on}
 use borrow.Author.Needs.{needs}
 use Rattle.exports.proofs.session.run.Statement.{statement}
 use Rattle.exports.proofs.session.run.Tie as tie

@@ -1,5 +1,5 @@
 -- `file::parse::parse` meets its contract. Assumes nothing.
-use Rattle.file.specs.Parse.{parsed}
+use Rattle.file.proofs.ParseLaws.{parsed}
 use borrow.Author.Needs.{needs}
 use Rattle.file.proofs.parse.parse.Statement.{statement}
 use Rattle.file.proofs.parse.parse.Tie as tie

@@ -1,5 +1,5 @@
 -- `file::phys::put_phy` meets its contract. Assumes nothing.
-use Rattle.file.specs.Parse.{phy-copied, phy-length}
+use Rattle.file.proofs.ParseLaws.{phy-copied, phy-length}
 use borrow.Author.Needs.{needs}
 use Rattle.file.proofs.phys.put_phy.Statement.{statement}
 use Rattle.file.proofs.phys.put_phy.Tie as tie

@@ -1,6 +1,6 @@
 -- `file::read::read_counts` meets its contract. Assumes nothing.
 use Rattle.file.specs.Steps.{countsRead}
-use Rattle.adapter.specs.Store.{phys-bound, rows-bound}
+use Rattle.adapter.proofs.StoreLaws.{phys-bound, rows-bound}
 use borrow.Author.Needs.{needs}
 use Rattle.laws.specs.Choice.{picks}
 use Rattle.file.proofs.read.read_counts.Statement.{statement}

@@ -1,5 +1,5 @@
 -- `file::read::read_fields` meets its contract. Assumes nothing.
-use Rattle.file.specs.Laws.{count-read}
+use Rattle.file.proofs.Laws.{count-read}
 use Rattle.file.specs.Steps.{fieldsRead}
 use borrow.Author.Needs.{needs}
 use Rattle.file.proofs.read.read_fields.Statement.{statement}

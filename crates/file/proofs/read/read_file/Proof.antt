@@ -1,5 +1,5 @@
 -- `file::read::read_file` meets its contract. Assumes nothing.
-use Rattle.file.specs.Steps.{file-by}
+use Rattle.file.proofs.StepsLaws.{file-by}
 use borrow.Author.Needs.{needs}
 use Rattle.file.proofs.read.read_file.Statement.{statement}
 use Rattle.file.proofs.read.read_file.Tie as tie

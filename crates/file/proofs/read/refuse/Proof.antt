@@ -1,5 +1,5 @@
 -- `file::read::refuse` meets its contract. Assumes nothing.
-use Rattle.file.specs.Laws.{refused-left}
+use Rattle.file.proofs.Laws.{refused-left}
 use borrow.Author.Needs.{needs}
 use Rattle.file.proofs.read.refuse.Statement.{statement}
 use Rattle.file.proofs.read.refuse.Tie as tie

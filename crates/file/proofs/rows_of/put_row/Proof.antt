@@ -1,5 +1,5 @@
 -- `file::rows_of::put_row` meets its contract. Assumes nothing.
-use Rattle.file.specs.Parse.{row-copied, row-length}
+use Rattle.file.proofs.ParseLaws.{row-copied, row-length}
 use borrow.Author.Needs.{needs}
 use Rattle.file.proofs.rows_of.put_row.Statement.{statement}
 use Rattle.file.proofs.rows_of.put_row.Tie as tie

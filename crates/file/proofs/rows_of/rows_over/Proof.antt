@@ -4,7 +4,7 @@ use Prim.Native.Nat.{_-_, _*_, _≤_}
 use lib.ListN.{length}
 use Rattle.laws.specs.Flat.{flatTo, pieces, put-loop}
 use Rattle.rows.specs.Row.{rowsSize}
-use Rattle.file.specs.Laws.{row-within}
+use Rattle.file.proofs.Laws.{row-within}
 use Rattle.file.specs.Parse.{rowFrom, rowsFrom}
 use Rattle.file.proofs.rows_of.rows_over.Statement.{statement}
 use Rattle.file.proofs.rows_of.rows_over.Tie as tie

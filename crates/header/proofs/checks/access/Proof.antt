@@ -1,7 +1,7 @@
 -- `header::checks::access` meets its contract. Assumes nothing.
 use borrow.Author.Needs.{needs}
 use Rattle.header.specs.Header.{accessCode}
-use Rattle.header.specs.Laws.{structure-room}
+use Rattle.header.proofs.Laws.{structure-room}
 use Rattle.laws.specs.Choice.{picks}
 use Rattle.header.proofs.checks.access.Statement.{statement}
 use Rattle.header.proofs.checks.access.Tie as tie

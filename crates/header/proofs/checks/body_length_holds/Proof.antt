@@ -1,6 +1,6 @@
 -- `header::checks::body_length_holds` meets its contract. Assumes nothing.
 use borrow.Author.Needs.{needs}
-use Rattle.header.specs.Laws.{length-by}
+use Rattle.header.proofs.Laws.{length-by}
 use Rattle.header.proofs.checks.body_length_holds.Statement.{statement}
 use Rattle.header.proofs.checks.body_length_holds.Tie as tie
 

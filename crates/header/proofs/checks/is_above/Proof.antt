@@ -1,6 +1,6 @@
 -- `header::checks::is_above` meets its contract. Assumes nothing.
 use borrow.Author.Needs.{needs}
-use Rattle.header.specs.Laws.{room-by, above-by}
+use Rattle.header.proofs.Laws.{room-by, above-by}
 use Rattle.header.proofs.checks.is_above.Statement.{statement}
 use Rattle.header.proofs.checks.is_above.Tie as tie
 

@@ -1,6 +1,6 @@
 -- `header::checks::within` meets its contract. Assumes nothing.
 use borrow.Author.Needs.{needs}
-use Rattle.header.specs.Laws.{short-structure, short-body, inside-body, structure-inside}
+use Rattle.header.proofs.Laws.{short-structure, short-body, inside-body, structure-inside}
 use Rattle.header.proofs.checks.within.Statement.{statement}
 use Rattle.header.proofs.checks.within.Tie as tie
 

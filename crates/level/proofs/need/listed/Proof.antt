@@ -1,7 +1,7 @@
 -- `level::need::listed` meets its contract. Assumes nothing.
 use Prim.Native.Nat.{_-_, _≤_}
 use lib.ListN.{length}
-use Rattle.level.specs.Need.{PassedOver, listed-loop}
+use Rattle.level.proofs.NeedLaws.{PassedOver, listed-loop}
 use Rattle.level.proofs.need.listed.Statement.{statement}
 use Rattle.level.proofs.need.listed.Tie as tie
 

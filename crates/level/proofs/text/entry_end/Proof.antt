@@ -2,7 +2,8 @@
 use mathlib.Core.Path.{_≡_}
 use Prim.Native.Nat.{_+_, _-_, _≤_}
 use lib.ListN.{length, drop}
-use Rattle.level.specs.Walk.{entryLength, end-loop}
+use Rattle.level.specs.Walk.{entryLength}
+use Rattle.level.proofs.WalkLaws.{end-loop}
 use Rattle.level.proofs.text.entry_end.Statement.{statement}
 use Rattle.level.proofs.text.entry_end.Tie as tie
 

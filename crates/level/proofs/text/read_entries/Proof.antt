@@ -3,7 +3,7 @@ use mathlib.Core.Path.{_≡_}
 use Prim.Native.Nat.{_-_, _≤_}
 use lib.ListN.{length, drop}
 use Rattle.level.specs.Text.{entries, ours, settingOf}
-use Rattle.level.specs.Walk.{walked, walk-loop}
+use Rattle.level.proofs.WalkLaws.{walked, walk-loop}
 use Rattle.level.proofs.text.read_entries.Statement.{statement}
 use Rattle.level.proofs.text.read_entries.Tie as tie
 

@@ -1,5 +1,5 @@
 -- `level::text::read_entry` meets its contract. Assumes nothing.
-use Rattle.level.specs.Walk.{entry-joined}
+use Rattle.level.proofs.WalkLaws.{entry-joined}
 use borrow.Author.Needs.{needs}
 use Rattle.level.proofs.text.read_entry.Statement.{statement}
 use Rattle.level.proofs.text.read_entry.Tie as tie

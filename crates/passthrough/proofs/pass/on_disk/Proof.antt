@@ -1,6 +1,6 @@
 -- `passthrough::pass::on_disk` meets its contract. Assumes nothing.
 use borrow.Author.Needs.{needs}
-use Rattle.passthrough.specs.Laws.{on-disk-left}
+use Rattle.passthrough.proofs.Laws.{on-disk-left}
 use Rattle.passthrough.proofs.pass.on_disk.Statement.{statement}
 use Rattle.passthrough.proofs.pass.on_disk.Tie as tie
 

@@ -1,6 +1,6 @@
 -- `passthrough::pass::pass_to` meets its contract. Assumes nothing.
-use Rattle.select.specs.Laws.{selected-phy}
-use Rattle.passthrough.specs.Laws.{selected-disk}
+use Rattle.select.proofs.Laws.{selected-phy}
+use Rattle.passthrough.proofs.Laws.{selected-disk}
 use Rattle.passthrough.specs.Passthrough.{passedTo}
 use borrow.Author.Needs.{needs}
 use Rattle.laws.specs.Choice.{picks}

@@ -1,7 +1,7 @@
 -- `phy::Phy::attached_is` meets its contract. Assumes nothing.
 use Rattle.phy.specs.Entity.{attachedIs, attachedAddress}
 use Rattle.laws.specs.Splice.{part}
-use Rattle.phy.specs.Field.{within}
+use Rattle.phy.proofs.FieldLaws.{within}
 use borrow.Author.Needs.{needs}
 use Rattle.phy.proofs.Phy.attached_is.Statement.{statement}
 use Rattle.phy.proofs.Phy.attached_is.Tie as tie

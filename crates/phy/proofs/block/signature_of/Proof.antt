@@ -1,5 +1,5 @@
 -- `phy::block::signature_of` meets its contract. Assumes nothing.
-use Rattle.phy.specs.Field.{copied}
+use Rattle.phy.proofs.FieldLaws.{copied}
 use borrow.Author.Needs.{needs}
 use Rattle.phy.proofs.block.signature_of.Statement.{statement}
 use Rattle.phy.proofs.block.signature_of.Tie as tie

@@ -1,5 +1,5 @@
 -- `reports::signature::get_signature` meets its contract. Assumes nothing.
-use Rattle.tables.specs.Laws.{exists-below}
+use Rattle.tables.proofs.Laws.{exists-below}
 use Rattle.reports.specs.Signature.{sataSignature}
 use borrow.Author.Needs.{needs}
 use Rattle.laws.specs.Choice.{picks}

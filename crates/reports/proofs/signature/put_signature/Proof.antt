@@ -1,6 +1,6 @@
 -- `reports::signature::put_signature` meets its contract. Assumes nothing.
 use borrow.Author.Needs.{needs}
-use Rattle.reports.specs.Report.{fits}
+use Rattle.reports.proofs.ReportLaws.{fits}
 use Rattle.reports.proofs.signature.put_signature.Statement.{statement}
 use Rattle.reports.proofs.signature.put_signature.Tie as tie
 

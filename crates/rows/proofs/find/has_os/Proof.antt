@@ -1,5 +1,5 @@
 -- `rows::find::has_os` meets its contract. Assumes nothing.
-use Rattle.rows.specs.Read.{os-compared, os-unlike-by}
+use Rattle.rows.proofs.ReadLaws.{os-compared, os-unlike-by}
 use borrow.Author.Needs.{needs}
 use Rattle.rows.proofs.find.has_os.Statement.{statement}
 use Rattle.rows.proofs.find.has_os.Tie as tie

@@ -1,5 +1,5 @@
 -- `rows::find::has_sas` meets its contract. Assumes nothing.
-use Rattle.rows.specs.Read.{sas-compared, sas-unlike}
+use Rattle.rows.proofs.ReadLaws.{sas-compared, sas-unlike}
 use borrow.Author.Needs.{needs}
 use Rattle.rows.proofs.find.has_sas.Statement.{statement}
 use Rattle.rows.proofs.find.has_sas.Tie as tie

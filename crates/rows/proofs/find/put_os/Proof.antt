@@ -1,5 +1,5 @@
 -- `rows::find::put_os` meets its contract. Assumes nothing.
-use Rattle.rows.specs.Read.{os-put}
+use Rattle.rows.proofs.ReadLaws.{os-put}
 use borrow.Author.Needs.{needs}
 use Rattle.rows.proofs.find.put_os.Statement.{statement}
 use Rattle.rows.proofs.find.put_os.Tie as tie

@@ -1,5 +1,5 @@
 -- `rows::find::put_sas` meets its contract. Assumes nothing.
-use Rattle.rows.specs.Read.{sas-put}
+use Rattle.rows.proofs.ReadLaws.{sas-put}
 use borrow.Author.Needs.{needs}
 use Rattle.rows.proofs.find.put_sas.Statement.{statement}
 use Rattle.rows.proofs.find.put_sas.Tie as tie

@@ -1,5 +1,5 @@
 -- `rows::hold::is_fresh_by` meets its contract. Assumes nothing.
-use Rattle.rows.specs.Seen.{unmarked-fresh}
+use Rattle.rows.proofs.SeenLaws.{unmarked-fresh}
 use borrow.Author.Needs.{needs}
 use Rattle.rows.proofs.hold.is_fresh_by.Statement.{statement}
 use Rattle.rows.proofs.hold.is_fresh_by.Tie as tie

@@ -1,5 +1,5 @@
 -- `rows::hold::mark` meets its contract. Assumes nothing.
-use Rattle.rows.specs.Seen.{mark-room, marked-more}
+use Rattle.rows.proofs.SeenLaws.{mark-room, marked-more}
 use borrow.Author.Needs.{needs}
 use Rattle.rows.proofs.hold.mark.Statement.{statement}
 use Rattle.rows.proofs.hold.mark.Tie as tie

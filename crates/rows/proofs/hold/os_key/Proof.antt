@@ -1,5 +1,5 @@
 -- `rows::hold::os_key` meets its contract. Assumes nothing.
-use Rattle.rows.specs.Seen.{os-key-read}
+use Rattle.rows.proofs.SeenLaws.{os-key-read}
 use borrow.Author.Needs.{needs}
 use Rattle.rows.proofs.hold.os_key.Statement.{statement}
 use Rattle.rows.proofs.hold.os_key.Tie as tie

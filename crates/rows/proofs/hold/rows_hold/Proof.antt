@@ -1,5 +1,5 @@
 -- `rows::hold::rows_hold` meets its contract. Assumes nothing.
-use Rattle.rows.specs.Seen.{none-hold}
+use Rattle.rows.proofs.SeenLaws.{none-hold}
 use borrow.Author.Needs.{needs}
 use Rattle.rows.proofs.hold.rows_hold.Statement.{statement}
 use Rattle.rows.proofs.hold.rows_hold.Tie as tie

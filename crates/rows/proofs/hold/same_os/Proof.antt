@@ -1,5 +1,5 @@
 -- `rows::hold::same_os` meets its contract. Assumes nothing.
-use Rattle.rows.specs.Read.{os-by, os-unlike}
+use Rattle.rows.proofs.ReadLaws.{os-by, os-unlike}
 use borrow.Author.Needs.{needs}
 use Rattle.rows.proofs.hold.same_os.Statement.{statement}
 use Rattle.rows.proofs.hold.same_os.Tie as tie

@@ -1,5 +1,5 @@
 -- `rows::hold::same_sas` meets its contract. Assumes nothing.
-use Rattle.rows.specs.Read.{sas-by, sas-pair-unlike}
+use Rattle.rows.proofs.ReadLaws.{sas-by, sas-pair-unlike}
 use borrow.Author.Needs.{needs}
 use Rattle.rows.proofs.hold.same_sas.Statement.{statement}
 use Rattle.rows.proofs.hold.same_sas.Tie as tie

@@ -1,5 +1,5 @@
 -- `rows::hold::sas_key` meets its contract. Assumes nothing.
-use Rattle.rows.specs.Seen.{sas-key-read}
+use Rattle.rows.proofs.SeenLaws.{sas-key-read}
 use borrow.Author.Needs.{needs}
 use Rattle.rows.proofs.hold.sas_key.Statement.{statement}
 use Rattle.rows.proofs.hold.sas_key.Tie as tie

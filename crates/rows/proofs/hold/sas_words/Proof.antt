@@ -1,5 +1,5 @@
 -- `rows::hold::sas_words` meets its contract. Assumes nothing.
-use Rattle.rows.specs.Seen.{words-read}
+use Rattle.rows.proofs.SeenLaws.{words-read}
 use borrow.Author.Needs.{needs}
 use Rattle.rows.proofs.hold.sas_words.Statement.{statement}
 use Rattle.rows.proofs.hold.sas_words.Tie as tie

@@ -1,5 +1,5 @@
 -- `rows::hold::zero_from` meets its contract. Assumes nothing.
-use Rattle.rows.specs.Read.{rows-past}
+use Rattle.rows.proofs.ReadLaws.{rows-past}
 use borrow.Author.Needs.{needs}
 use Rattle.rows.proofs.hold.zero_from.Statement.{statement}
 use Rattle.rows.proofs.hold.zero_from.Tie as tie

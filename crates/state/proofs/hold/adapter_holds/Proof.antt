@@ -1,5 +1,5 @@
 -- `state::hold::adapter_holds` meets its contract. Assumes nothing.
-use Rattle.adapter.specs.Store.{phys-bound, rows-bound}
+use Rattle.adapter.proofs.StoreLaws.{phys-bound, rows-bound}
 use Rattle.laws.specs.Choice.{and-then, and-not, flag}
 use Rattle.state.specs.State.{adapterHolds}
 use borrow.Author.Needs.{needs}

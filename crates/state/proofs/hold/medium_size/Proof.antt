@@ -1,5 +1,5 @@
 -- `state::hold::medium_size` meets its contract. Assumes nothing.
-use Rattle.state.specs.Laws.{medium-lent}
+use Rattle.state.proofs.Laws.{medium-lent}
 use borrow.Author.Needs.{needs}
 use Rattle.state.proofs.hold.medium_size.Statement.{statement}
 use Rattle.state.proofs.hold.medium_size.Tie as tie

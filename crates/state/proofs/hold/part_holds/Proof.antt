@@ -1,5 +1,5 @@
 -- `state::hold::part_holds` meets its contract. Assumes nothing.
-use Rattle.state.specs.Laws.{holds-lent}
+use Rattle.state.proofs.Laws.{holds-lent}
 use borrow.Author.Needs.{needs}
 use Rattle.state.proofs.hold.part_holds.Statement.{statement}
 use Rattle.state.proofs.hold.part_holds.Tie as tie

@@ -1,5 +1,5 @@
 -- `state::hold::rows_apart` meets its contract. Assumes nothing.
-use Rattle.state.specs.Laws.{rows-lent}
+use Rattle.state.proofs.Laws.{rows-lent}
 use borrow.Author.Needs.{needs}
 use Rattle.state.proofs.hold.rows_apart.Statement.{statement}
 use Rattle.state.proofs.hold.rows_apart.Tie as tie

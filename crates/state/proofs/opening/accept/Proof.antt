@@ -1,5 +1,5 @@
 -- `state::opening::accept` meets its contract. Assumes nothing.
-use Rattle.state.specs.Laws.{accepted-state}
+use Rattle.state.proofs.Laws.{accepted-state}
 use borrow.Author.Needs.{needs}
 use Rattle.state.proofs.opening.accept.Statement.{statement}
 use Rattle.state.proofs.opening.accept.Tie as tie

@@ -1,5 +1,5 @@
 -- `state::opening::load` meets its contract. Assumes nothing.
-use Rattle.state.specs.Laws.{file-phys, file-rows, number-judged, number-refused, tables-read}
+use Rattle.state.proofs.Laws.{file-phys, file-rows, number-judged, number-refused, tables-read}
 use borrow.Author.Needs.{needs}
 use Rattle.state.proofs.opening.load.Statement.{statement}
 use Rattle.state.proofs.opening.load.Tie as tie

@@ -1,5 +1,5 @@
 -- `state::opening::load_state` meets its contract. Assumes nothing.
-use Rattle.state.specs.Laws.{loaded}
+use Rattle.state.proofs.Laws.{loaded}
 use borrow.Author.Needs.{needs}
 use Rattle.state.proofs.opening.load_state.Statement.{statement}
 use Rattle.state.proofs.opening.load_state.Tie as tie

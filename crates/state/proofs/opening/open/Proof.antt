@@ -1,5 +1,5 @@
 -- `state::opening::open` meets its contract. Assumes nothing.
-use Rattle.state.specs.Laws.{open-whole, open-other}
+use Rattle.state.proofs.Laws.{open-whole, open-other}
 use borrow.Author.Needs.{needs}
 use Rattle.state.proofs.opening.open.Statement.{statement}
 use Rattle.state.proofs.opening.open.Tie as tie

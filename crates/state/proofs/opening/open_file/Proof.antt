@@ -1,5 +1,5 @@
 -- `state::opening::open_file` meets its contract. Assumes nothing.
-use Rattle.state.specs.Laws.{file-settled}
+use Rattle.state.proofs.Laws.{file-settled}
 use borrow.Author.Needs.{needs}
 use Rattle.state.proofs.opening.open_file.Statement.{statement}
 use Rattle.state.proofs.opening.open_file.Tie as tie

@@ -1,5 +1,5 @@
 -- `state::opening::refuse_opening` meets its contract. Assumes nothing.
-use Rattle.state.specs.Laws.{refused-state}
+use Rattle.state.proofs.Laws.{refused-state}
 use borrow.Author.Needs.{needs}
 use Rattle.state.proofs.opening.refuse_opening.Statement.{statement}
 use Rattle.state.proofs.opening.refuse_opening.Tie as tie

@@ -1,5 +1,5 @@
 -- `tables::phys::phy_at` meets its contract. Assumes nothing.
-use Rattle.tables.specs.Laws.{phy-lent}
+use Rattle.tables.proofs.Laws.{phy-lent}
 use borrow.Author.Needs.{needs}
 use Rattle.tables.proofs.phys.phy_at.Statement.{statement}
 use Rattle.tables.proofs.phys.phy_at.Tie as tie

@@ -1,5 +1,5 @@
 -- `tables::phys::port_at` meets its contract. Assumes nothing.
-use Rattle.tables.specs.Laws.{port-read}
+use Rattle.tables.proofs.Laws.{port-read}
 use borrow.Author.Needs.{needs}
 use Rattle.tables.proofs.phys.port_at.Statement.{statement}
 use Rattle.tables.proofs.phys.port_at.Tie as tie

@@ -1,5 +1,5 @@
 -- `tables::phys::put_entity` meets its contract. Assumes nothing.
-use Rattle.tables.specs.Laws.{entity-put, tables-entity}
+use Rattle.tables.proofs.Laws.{entity-put, tables-entity}
 use borrow.Author.Needs.{needs}
 use Rattle.tables.proofs.phys.put_entity.Statement.{statement}
 use Rattle.tables.proofs.phys.put_entity.Tie as tie

@@ -1,5 +1,5 @@
 -- `tables::phys::store_phy` meets its contract. Assumes nothing.
-use Rattle.tables.specs.Stored.{phy-put}
+use Rattle.tables.proofs.StoredLaws.{phy-put}
 use borrow.Author.Needs.{needs}
 use Rattle.tables.proofs.phys.store_phy.Statement.{statement}
 use Rattle.tables.proofs.phys.store_phy.Tie as tie

@@ -1,5 +1,5 @@
 -- `tables::phys::write_counters` meets its contract. Assumes nothing.
-use Rattle.tables.specs.Stored.{counters-stored}
+use Rattle.tables.proofs.StoredLaws.{counters-stored}
 use borrow.Author.Needs.{needs}
 use Rattle.tables.proofs.phys.write_counters.Statement.{statement}
 use Rattle.tables.proofs.phys.write_counters.Tie as tie

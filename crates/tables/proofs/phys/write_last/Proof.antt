@@ -1,5 +1,5 @@
 -- `tables::phys::write_last` meets its contract. Assumes nothing.
-use Rattle.tables.specs.Stored.{last-stored}
+use Rattle.tables.proofs.StoredLaws.{last-stored}
 use borrow.Author.Needs.{needs}
 use Rattle.tables.proofs.phys.write_last.Statement.{statement}
 use Rattle.tables.proofs.phys.write_last.Tie as tie

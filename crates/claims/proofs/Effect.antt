@@ -1,0 +1,130 @@
+-- What a request does to the tables and to what is lent beside them, said once for each control code: one record, from which every statement about
+-- a run takes its part. Assumes nothing.
+use mathlib.Core.Path.{_≡_, refl, sym, _∙_}
+use mathlib.Core.Logic.{_≢_}
+use mathlib.Core.Bool.{Bool, true, false, cond, _&&_}
+use mathlib.Core.List.{List}
+use Prim.Native.Nat.{ℕ, _<_, _≤_}
+use native.Mathlib.Omega.{arith}
+use lib.Dec.{eqb}
+use lib.ListN.{length}
+use borrow.Author.Tests.{ne-eqb}
+use Rattle.laws.specs.Choice.{by-bool}
+use Rattle.codes.specs.Codes.{setPhyInfo, stpPassthru}
+use Rattle.phy.specs.declared.Phy.{Phy}
+use Rattle.phy.specs.Entity.{programmedMinimum, programmedMaximum}
+use Rattle.phy.proofs.KeptLaws.{Kept, Settings}
+use Rattle.fields.specs.Rules.{fieldsHold}
+use Rattle.adapter.specs.Adapter.{Adapter, phyIn, withPhy}
+use Rattle.link.specs.Rule.{negotiatedHolds}
+use Rattle.select.specs.declared.Selection.{Selection}
+use Rattle.select.specs.Select.{selectIn}
+use Rattle.stp.specs.Body.{phyAsked, portAsked}
+use Rattle.state.specs.State.{adapterHolds}
+use Rattle.service.specs.Serve.{Store, Served}
+use Rattle.claims.specs.LastWriter.{Told, Writer, after, Sector, sectorIn, sectorWriter, rateWriter}
+use Rattle.claims.proofs.Ways.{toldOf}
+use Rattle.claims.proofs.Moved.{Sized, Moved, moved-refl, stored-by, moved-stored, few-phys, stored-holds}
+
+-- ---- what writes nothing
+
+-- nothing that a writer has keys for is changed
+abbrev pub Quiet : {K A : Type 0} → Writer K A → Told → Type 0
+Quiet {K} {A} w t = (key : K) (before : A) → after w key t before ≡ before
+
+module _ {K A : Type 0} (w : Writer K A) (t : Told) where
+  -- what was not granted
+  pub quiet-refused : t .granted ≡ false → Quiet w t
+  unfolding after
+  quiet-refused g key before = rw g refl
+
+  -- and another control code
+  pub quiet-other : (t .control ≡ w .code → ⊥) → Quiet w t
+  unfolding after
+  quiet-other n key before =
+      by-bool (λ (b : Bool). cond (b && (eqb (t .control) (w .code) && w .writes key t)) (w .puts key t) before ≡ before) (rw (ne-eqb (t .control) (w .code) n) refl) refl (t .granted)
+
+-- ---- the effect
+
+-- the phy that a request selects, in an adapter
+abbrev pub selectsIn : Adapter → List ℕ → Selection
+selectsIn ad body = selectIn ad (phyAsked body) (portAsked body)
+
+-- on the tables: what no request changes stays, the rules of the state go on holding, and the programmed rates are as the request tells
+pub record OnTables (ad : Adapter) (t : Told) (bd : Adapter) : Type 0 where
+  pub moved : Moved ad bd
+  pub holds : adapterHolds ad ≡ true → adapterHolds bd ≡ true
+  pub minima : (n : ℕ) → programmedMinimum (phyIn bd n) ≡ after (rateWriter 2) n t (programmedMinimum (phyIn ad n))
+  pub maxima : (n : ℕ) → programmedMaximum (phyIn bd n) ≡ after (rateWriter 3) n t (programmedMaximum (phyIn ad n))
+
+-- on what is lent beside them: the disks keep their length, and the sectors are as the request tells
+pub record OnStore (ad : Adapter) (t : Told) (before next : Store) : Type 0 where
+  pub size : length (next .medium) ≡ length (before .medium)
+  pub sectors : (s : Sector) → sectorIn next s ≡ after (sectorWriter (selectsIn ad)) s t (sectorIn before s)
+
+pub record Effect (ad : Adapter) (before : Store) (t : Told) (bd : Adapter) (next : Store) : Type 0 where
+  pub tables : OnTables ad t bd
+  pub store : OnStore ad t before next
+
+-- a request that was served: its return code is small, and its effect
+pub record Does (ad : Adapter) (store : Store) (control : ℕ) (body : List ℕ) (x : Served) : Type 0 where
+  pub small : x .code ≤ 2014
+  pub effect : Effect ad store (toldOf control body x) (x .adapter) (x .store)
+
+-- ---- none
+
+module _ (ad : Adapter) (t : Told) where
+  pub tables-kept : ((place : ℕ) → Quiet (rateWriter place) t) → OnTables ad t ad
+  tables-kept q = record { moved = moved-refl ad; holds = λ h. h; minima = λ n. sym (q 2 n _); maxima = λ n. sym (q 3 n _) }
+
+  pub store-kept : (store : Store) → Quiet (sectorWriter (selectsIn ad)) t → OnStore ad t store store
+  store-kept store q = record { size = refl; sectors = λ s. sym (q s _) }
+
+  -- of what was not granted
+  pub no-effect : (store : Store) → t .granted ≡ false → Effect ad store t ad store
+  no-effect store g =
+      record { tables = tables-kept (λ place. quiet-refused (rateWriter place) t g); store = store-kept store (quiet-refused (sectorWriter (selectsIn ad)) t g) }
+
+  -- of a code that sets no rate and writes no sector: those that only report, whether they were granted or not
+  pub report-effect : (store : Store) → (t .control ≡ setPhyInfo → ⊥) → (t .control ≡ stpPassthru → ⊥) → Effect ad store t ad store
+  report-effect store n m =
+      record { tables = tables-kept (λ place. quiet-other (rateWriter place) t n); store = store-kept store (quiet-other (sectorWriter (selectsIn ad)) t m) }
+
+-- ---- one phy stored
+
+-- a phy that may be stored as phy n: it keeps what no request changes, passes the rules, and has the rates that the request tells, which sets
+-- those of no other phy
+pub record Storing (ad : Adapter) (t : Told) (n : ℕ) (phy : Phy) : Type 0 where
+  pub below : n < ad .«phy_count»
+  pub kept : Kept (phyIn ad n) phy
+  pub fields : fieldsHold phy (record { 0 = n }) (ad .«phy_count») ≡ true
+  pub negotiated : negotiatedHolds phy ≡ true
+  pub minimum : programmedMinimum phy ≡ after (rateWriter 2) n t (programmedMinimum (phyIn ad n))
+  pub maximum : programmedMaximum phy ≡ after (rateWriter 3) n t (programmedMaximum (phyIn ad n))
+  pub others : (place m before : ℕ) → m ≢ n → after (rateWriter place) m t before ≡ before
+
+-- one that a code other than 21 stores: its settings stay
+pub storing-kept : (ad : Adapter) (t : Told) (n : ℕ) (phy : Phy) → (t .control ≡ setPhyInfo → ⊥) → n < ad .«phy_count» → Kept (phyIn ad n) phy
+    → fieldsHold phy (record { 0 = n }) (ad .«phy_count») ≡ true → negotiatedHolds phy ≡ true → Settings (phyIn ad n) phy → Storing ad t n phy
+storing-kept ad t n phy c k v f g s =
+    record {
+      below = k;
+      kept = v;
+      fields = f;
+      negotiated = g;
+      minimum = s .minimum ∙ sym (quiet-other (rateWriter 2) t c n (programmedMinimum (phyIn ad n)));
+      maximum = s .maximum ∙ sym (quiet-other (rateWriter 3) t c n (programmedMaximum (phyIn ad n)));
+      others = λ place m before _. quiet-other (rateWriter place) t c m before;
+    }
+
+pub stored-effect : (ad : Adapter) (t : Told) (n : ℕ) (phy : Phy) → adapterHolds ad ≡ true → Sized ad → Storing ad t n phy → OnTables ad t (withPhy ad n phy)
+stored-effect ad t n phy h z s =
+    let m : n < length (ad .phys) = rw (z .phys) (omega (arith, s .below, few-phys ad h)) in
+    record {
+      moved = moved-stored ad n phy m (s .kept);
+      holds = λ _. stored-holds ad h n (s .below) phy (z .phys) (s .fields) (s .negotiated);
+      minima = stored-by (λ (i : ℕ) (x : Phy). programmedMinimum x ≡ after (rateWriter 2) i t (programmedMinimum (phyIn ad i))) ad n phy m (s .minimum)
+          (λ i d. sym (s .others 2 i _ d));
+      maxima = stored-by (λ (i : ℕ) (x : Phy). programmedMaximum x ≡ after (rateWriter 3) i t (programmedMaximum (phyIn ad i))) ad n phy m (s .maximum)
+          (λ i d. sym (s .others 3 i _ d));
+    }

@@ -1,0 +1,11 @@
+-- The proofs of what is claimed, and what they go by.
+pub mod Steps
+pub mod Ways
+pub mod Moved
+pub mod Effect
+pub mod PhyEffects
+pub mod DiskEffect
+pub mod Reached
+pub mod Demand3
+pub mod Conversions
+pub mod Starred

@@ -1,0 +1,175 @@
+-- What is proved of the definitions in specs/Parse.antt. Assumes nothing.
+use mathlib.Core.Path.{_≡_, sym, _∙_, ap}
+use mathlib.Core.List.{List, [], _∷_}
+use Prim.Native.Nat.{ℕ, _+_, _*_, _<_, _≤_}
+use native.Mathlib.Nat.{add-zero, zero-add}
+use native.Mathlib.Omega.{arith}
+use lib.ListN.{length, getD}
+use Rattle.laws.specs.Fill.{listTo, padded, filled-as}
+use Rattle.laws.specs.Flat.{length-pieces, piece-at, piece-past}
+use Rattle.laws.specs.Splice.{part, splice, length-part, getD-part, part-part, length-splice, part-splice, part-in, part-below, get-in, get-below}
+use Rattle.phy.specs.Block.{countersAt, phyOf, zeroPhy, noPhy}
+use Rattle.rows.specs.Row.{rowOf, rowsSize, rowStart, rowsOf, zeroRow, noRow}
+use Rattle.rows.proofs.ReadLaws.{row-part}
+use Rattle.block.specs.Check.{blockAt}
+use Rattle.layout.specs.Layout.{phyPlace, rowPlace, fileLength}
+use Rattle.tables.specs.Tables.{tablesSize, phyStart, rowsStart, phyAt, tablesOf}
+use Rattle.tables.proofs.ZeroLaws.{phy-zeros, row-zeros}
+use Rattle.file.specs.File.{filePhy, fileRow, adapterOf}
+use Rattle.file.specs.Parse.{headed, phyFrom, physFrom, rowFrom, rowsFrom}
+
+-- ---- a phy and a row in a piece
+
+-- a phy stands in the first 104 bytes of its block
+phy-front : (b : List ℕ) → phyOf (part b 0 104) ≡ phyOf b
+unfolding phyOf countersAt
+phy-front b =
+    rw (part-part b 0 104 0 64 (omega arith), part-part b 0 104 64 4 (omega arith), part-part b 0 104 68 4 (omega arith))
+    (rw (part-part b 0 104 72 4 (omega arith), part-part b 0 104 76 4 (omega arith), part-part b 0 104 80 20 (omega arith))
+    (rw (getD-part b 0 104 100 0 (omega arith), getD-part b 0 104 101 0 (omega arith), getD-part b 0 104 102 0 (omega arith))
+    (rw (getD-part b 0 104 103 0 (omega arith)))))
+
+phy-file : (file : List ℕ) (n : ℕ) → phyOf (phyFrom file n) ≡ filePhy file n
+unfolding phyFrom filePhy blockAt
+phy-file file n = ap phyOf (sym (part-part file (phyPlace n) 512 0 104 (omega arith) ∙ rw add-zero)) ∙ phy-front (part file (phyPlace n) 512)
+
+row-file : (file : List ℕ) (p i : ℕ) → rowOf (rowFrom file p i) 0 ≡ fileRow file p i
+unfolding rowFrom fileRow
+row-file file p i = row-part file (rowPlace p i) 20 0 (omega arith) ∙ rw add-zero
+
+-- a row by itself is that row among others
+row-alone : (b : List ℕ) (at : ℕ) → rowOf b at ≡ rowOf (part b at 20) 0
+row-alone b at = sym (row-part b at 20 0 (omega arith) ∙ rw add-zero)
+
+-- ---- the tables
+
+module _ (t file : List ℕ) (p a : ℕ) (size : length t ≡ tablesSize) (k : p ≤ 32) (l : a ≤ 64) (m : length file ≡ fileLength p a) where
+  phy-long : (i : ℕ) → i < p → length (phyFrom file i) ≡ 104
+  unfolding phyFrom
+  phy-long i h = length-part file (phyPlace i) 104 (omega arith)
+
+  row-long : (i : ℕ) → i < a → length (rowFrom file p i) ≡ 20
+  unfolding rowFrom
+  row-long i h = length-part file (rowPlace p i) 20 (omega arith)
+
+  phys-long : length (physFrom file p) ≡ 3328
+  unfolding physFrom
+  phys-long = length-pieces (phyFrom file) 104 p 32 0 phy-long k
+
+  rows-long : length (rowsFrom file p a) ≡ rowsSize
+  unfolding rowsFrom
+  rows-long = length-pieces (rowFrom file p) 20 a 64 0 row-long l
+
+  info-long : length (part file 4 174) ≡ 174
+  info-long = length-part file 4 174 (omega arith)
+
+  -- the rows
+  row-below : (i : ℕ) → i < a → rowOf (rowsFrom file p a) (rowStart i) ≡ fileRow file p i
+  unfolding rowsFrom
+  row-below i h =
+      row-alone (rowsFrom file p a) (rowStart i)
+      ∙ ap (λ (b : List ℕ). rowOf b 0) (piece-at (rowFrom file p) 20 a 64 0 row-long l i h)
+      ∙ row-file file p i
+
+  row-past : (i : ℕ) → a ≤ i → i < 64 → rowOf (rowsFrom file p a) (rowStart i) ≡ zeroRow
+  unfolding rowsFrom
+  row-past i h j =
+      row-alone (rowsFrom file p a) (rowStart i)
+      ∙ ap (λ (b : List ℕ). rowOf b 0) (piece-past (rowFrom file p) 20 a 64 0 row-long l i h j)
+      ∙ row-zeros 20 0 (omega arith)
+
+  rows-read : rowsOf (rowsFrom file p a) ≡ padded (fileRow file p) a 64 zeroRow
+  unfolding rowsOf
+  rows-read = filled-as (λ (i : ℕ). rowOf (rowsFrom file p a) (rowStart i)) (fileRow file p) a 64 zeroRow noRow l row-below row-past
+
+  -- the tables with the phys behind their head, and with the rows behind these
+  abbrev manned : List ℕ
+  manned = splice (headed t file p a) 176 (physFrom file p)
+
+  abbrev read : List ℕ
+  read = splice manned rowsStart (rowsFrom file p a)
+
+  counted-long : length (splice t 0 (p ∷ a ∷ [])) ≡ tablesSize
+  counted-long = length-splice t 0 (p ∷ a ∷ []) (omega arith) ∙ size
+
+  headed-long : length (headed t file p a) ≡ tablesSize
+  unfolding headed
+  headed-long = length-splice (splice t 0 (p ∷ a ∷ [])) 2 (part file 4 174) (omega (arith, counted-long, info-long)) ∙ counted-long
+
+  manned-long : length manned ≡ tablesSize
+  manned-long = length-splice (headed t file p a) 176 (physFrom file p) (omega (arith, headed-long, phys-long)) ∙ headed-long
+
+  -- what stands in the head is the head's
+  head-byte : (i : ℕ) → i < 176 → getD read i 0 ≡ getD (headed t file p a) i 0
+  head-byte i h =
+      get-below manned rowsStart (rowsFrom file p a) i 0 (omega (arith, manned-long)) (omega arith)
+      ∙ get-below (headed t file p a) 176 (physFrom file p) i 0 (omega (arith, headed-long)) h
+
+  count-byte : (i : ℕ) → i < 2 → getD (headed t file p a) i 0 ≡ getD (p ∷ a ∷ []) i 0
+  unfolding headed
+  count-byte i h =
+      get-below (splice t 0 (p ∷ a ∷ [])) 2 (part file 4 174) i 0 (omega (arith, counted-long)) h
+      ∙ ap (λ (j : ℕ). getD (splice t 0 (p ∷ a ∷ [])) j 0) (sym (zero-add i))
+      ∙ get-in t 0 (p ∷ a ∷ []) i 0 (omega arith) h
+
+  info-part : part read 2 174 ≡ part file 4 174
+  unfolding headed
+  info-part =
+      part-below manned rowsStart (rowsFrom file p a) 2 174 (omega (arith, manned-long)) (omega arith)
+      ∙ part-below (headed t file p a) 176 (physFrom file p) 2 174 (omega (arith, headed-long)) (omega arith)
+      ∙ ap (part (headed t file p a) 2) (sym info-long)
+      ∙ part-splice (splice t 0 (p ∷ a ∷ [])) 2 (part file 4 174) (omega (arith, counted-long))
+
+  phy-part : (n : ℕ) → n < 32 → part read (phyStart n) 104 ≡ part (physFrom file p) (104 * n) 104
+  phy-part n h =
+      part-below manned rowsStart (rowsFrom file p a) (phyStart n) 104 (omega (arith, manned-long)) (omega arith)
+      ∙ part-in (headed t file p a) 176 (physFrom file p) (104 * n) 104 (omega (arith, headed-long)) (omega (arith, phys-long))
+
+  rows-part : part read rowsStart rowsSize ≡ rowsFrom file p a
+  rows-part = ap (part read rowsStart) (sym rows-long) ∙ part-splice manned rowsStart (rowsFrom file p a) (omega (arith, manned-long))
+
+  -- the phys
+  phy-below : (n : ℕ) → n < p → phyAt read n ≡ filePhy file n
+  unfolding phyAt physFrom
+  phy-below n h = ap phyOf (phy-part n (omega arith) ∙ piece-at (phyFrom file) 104 p 32 0 phy-long k n h) ∙ phy-file file n
+
+  phy-past : (n : ℕ) → p ≤ n → n < 32 → phyAt read n ≡ zeroPhy
+  unfolding phyAt physFrom
+  phy-past n h j = ap phyOf (phy-part n j ∙ piece-past (phyFrom file) 104 p 32 0 phy-long k n h j) ∙ phy-zeros
+
+  phys-read : listTo (phyAt read) 32 ≡ padded (filePhy file) p 32 zeroPhy
+  phys-read = filled-as (phyAt read) (filePhy file) p 32 zeroPhy noPhy k phy-below phy-past
+
+  tables-read : tablesOf read ≡ adapterOf file p a
+  unfolding tablesOf adapterOf
+  tables-read =
+      let e = head-byte 0 (omega arith) in
+      let f = head-byte 1 (omega arith) in
+      let g = count-byte 0 (omega arith) in
+      let h = count-byte 1 (omega arith) in
+      cc (info-part, phys-read, rows-part, rows-read)
+
+-- ---- what the code leaves
+
+pub parsed : (t file : List ℕ) (p a : ℕ) (b c d : List ℕ) → length t ≡ tablesSize → p ≤ 32 → a ≤ 64 → length file ≡ fileLength p a
+    → b ≡ headed t file p a → c ≡ splice b 176 (physFrom file p) → d ≡ splice c rowsStart (rowsFrom file p a) → tablesOf d ≡ adapterOf file p a
+parsed t file p a b c d size k l m e f g = rw (g, f, e) (tables-read t file p a size k l m)
+
+-- a phy's bytes and a row's, as copied
+pub phy-copied : (file d s : List ℕ) (at from n : ℕ) → from ≡ phyPlace n → s ≡ splice d at (part file from 104)
+    → s ≡ splice d at (phyFrom file n)
+unfolding phyFrom
+phy-copied file d s at from n e q = q ∙ rw e
+
+pub phy-length : (file : List ℕ) (n : ℕ) → 512 * (1 + n) + 512 ≤ length file → length (phyFrom file n) ≡ 104
+unfolding phyFrom
+phy-length file n h = length-part file (phyPlace n) 104 (omega arith)
+
+pub row-copied : (file d s : List ℕ) (at from p i : ℕ) → from ≡ rowPlace p i → s ≡ splice d at (part file from 20)
+    → s ≡ splice d at (rowFrom file p i)
+unfolding rowFrom
+row-copied file d s at from p i e q = q ∙ rw e
+
+pub row-length : (file : List ℕ) (p i : ℕ) → rowPlace p i + 20 ≤ length file → length (rowFrom file p i) ≡ 20
+unfolding rowFrom
+row-length file p i h = length-part file (rowPlace p i) 20 h

@@ -1,0 +1,5 @@
+-- The laws that the proofs of this crate and of the crates above cite.
+pub mod NeedLaws
+pub mod WalkLaws
+pub mod BoundLaws
+pub mod StarredLaws

@@ -1,0 +1,13 @@
+-- What is proved of the definitions in specs/Report.antt. Assumes nothing.
+use mathlib.Core.Path.{_≡_}
+use mathlib.Core.List.{List, map}
+use Prim.Native.Nat.{ℕ, _+_, _≤_}
+use native.Mathlib.Nat.{le-trans}
+use lib.ListN.{length}
+use borrow.Author.Needs.{length-unmapped}
+
+-- ---- for the proofs
+
+-- an array that is a struct's field fits into a body with room for it
+pub fits : (l body : List ℕ) (at n N : ℕ) → length (map (λ (v : ℕ). v) l) ≡ n → N ≤ length body → at + n ≤ N → at + length l ≤ length body
+fits l body at n N e h k = rw (length-unmapped ℕ l n e) (le-trans k h)

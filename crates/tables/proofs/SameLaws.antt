@@ -1,0 +1,101 @@
+-- Tables whose bytes are bytes are given by what they stand for: two of one meaning are the same bytes. So an equation over `tablesOf` says what
+-- becomes of every byte that is lent. Assumes nothing.
+use mathlib.Core.Path.{_≡_, refl, sym, _∙_, ap}
+use mathlib.Core.Bool.{Bool}
+use mathlib.Core.List.{List, [], _∷_}
+use Prim.Native.Nat.{ℕ, zero, suc, _+_, _-_, _/_, _%_, _<_, _≤_}
+use native.Mathlib.Omega.{arith}
+use lib.Dec.{ltb}
+use lib.ListN.{length, getD}
+use lib.Seq.{ext-getD}
+use borrow.Author.Tests.{ltb-true, ltb-false}
+use Rattle.laws.specs.Choice.{by-bool}
+use Rattle.laws.specs.Splice.{part, length-part, getD-part, part-all, part-add}
+use Rattle.wire.proofs.NumberLaws.{Bytes, bytes-part, word-back}
+use Rattle.phy.specs.Block.{phyOf, countersAt}
+use Rattle.rows.specs.Row.{rowsSize}
+use Rattle.rows.proofs.SameLaws.{rows-same}
+use Rattle.adapter.specs.Adapter.{Adapter, phyIn}
+use Rattle.tables.specs.PhyBytes.{counterBytes}
+use Rattle.tables.proofs.PhyBytesLaws.{phyBytes}
+use Rattle.tables.specs.Tables.{tablesSize, phyStart, rowsStart, phyAt, tablesOf}
+use Rattle.tables.proofs.Laws.{phy-in, rows-in}
+use Rattle.tables.proofs.StoredLaws.{four}
+
+-- ---- a phy's bytes, read and written back
+
+module _ (b : List ℕ) (e : length b ≡ 104) (h : Bytes b) where
+  counts-same : counterBytes (countersAt b 64) ≡ part b 64 16
+  unfolding counterBytes countersAt
+  counts-same =
+      rw (word-back b 64 h (omega arith), word-back b 68 h (omega arith), word-back b 72 h (omega arith), word-back b 76 h (omega arith))
+      (rw (← part-add b 72 4 4, ← part-add b 68 4 8, ← part-add b 64 4 12) refl)
+
+  last-same : getD b 100 0 ∷ getD b 101 0 ∷ getD b 102 0 ∷ getD b 103 0 ∷ [] ≡ part b 100 4
+  last-same =
+      let g : (i : ℕ) → i < 4 → getD b (100 + i) 0 ≡ getD (part b 100 4) i 0 = λ i l. sym (getD-part b 100 4 i 0 l) in
+      rw (g 0 (omega arith), g 1 (omega arith), g 2 (omega arith), g 3 (omega arith)) (four (part b 100 4) (length-part b 100 4 (omega arith)))
+
+  pub bytes-back : phyBytes (phyOf b) ≡ b
+  unfolding phyBytes phyOf
+  bytes-back =
+      rw (counts-same, last-same) (rw (← part-add b 80 20 4, ← part-add b 64 16 24, ← part-add b 0 64 40) (ap (part b 0) (sym e) ∙ part-all b))
+
+-- ---- the tables
+
+module _ (t u : List ℕ) (p : length t ≡ tablesSize) (q : length u ≡ tablesSize) (h : Bytes t) (k : Bytes u) (e : tablesOf t ≡ tablesOf u) where
+  head-same : (getD t 0 0 ≡ getD u 0 0) × ((getD t 1 0 ≡ getD u 1 0) × (part t 2 174 ≡ part u 2 174))
+  unfolding tablesOf
+  head-same = (ap (λ (a : Adapter). a .«phy_count») e, (ap (λ (a : Adapter). a .«row_count») e, ap (λ (a : Adapter). a .info) e))
+
+  phy-same : (n : ℕ) → n < 32 → part t (phyStart n) 104 ≡ part u (phyStart n) 104
+  unfolding phyAt
+  phy-same n l =
+      let s : phyOf (part t (phyStart n) 104) ≡ phyOf (part u (phyStart n) 104) = sym (phy-in t n l) ∙ ap (λ (a : Adapter). phyIn a n) e ∙ phy-in u n l in
+      sym (bytes-back (part t (phyStart n) 104) (length-part t (phyStart n) 104 (omega arith)) (bytes-part t (phyStart n) 104 h (omega arith)))
+      ∙ ap phyBytes s
+      ∙ bytes-back (part u (phyStart n) 104) (length-part u (phyStart n) 104 (omega arith)) (bytes-part u (phyStart n) 104 k (omega arith))
+
+  rows-here : part t rowsStart rowsSize ≡ part u rowsStart rowsSize
+  rows-here =
+      rows-same (part t rowsStart rowsSize) (part u rowsStart rowsSize) (length-part t rowsStart rowsSize (omega arith)) (length-part u rowsStart rowsSize (omega arith))
+      (sym (rows-in t) ∙ ap (λ (a : Adapter). a .rows) e ∙ rows-in u)
+
+  -- equal parts, byte by byte
+  byte-in : (at n i : ℕ) → part t at n ≡ part u at n → i < n → getD t (at + i) 0 ≡ getD u (at + i) 0
+  byte-in at n i s l = sym (getD-part t at n i 0 l) ∙ ap (λ (x : List ℕ). getD x i 0) s ∙ getD-part u at n i 0 l
+
+  abbrev Same : ℕ → Type 0
+  Same i = getD t i 0 ≡ getD u i 0
+
+  in-head : (i : ℕ) → i < 176 → Same i
+  in-head zero l = head-same .0
+  in-head (suc zero) l = head-same .1 .0
+  in-head (suc (suc i)) l =
+      let s : 2 + i ≡ suc (suc i) = omega arith in
+      rw s at (byte-in 2 174 i (head-same .1 .1) (omega arith))
+
+  in-phys : (j : ℕ) → j < 3328 → Same (176 + j)
+  in-phys j l =
+      let s : phyStart (j / 104) + j % 104 ≡ 176 + j = omega arith in
+      rw s at (byte-in (phyStart (j / 104)) 104 (j % 104) (phy-same (j / 104) (omega arith)) (omega arith))
+
+  in-rows : (j : ℕ) → j < 1280 → Same (3504 + j)
+  in-rows j l = byte-in 3504 1280 j rows-here l
+
+  pub tables-same : t ≡ u
+  tables-same = ext-getD 0 t u (p ∙ sym q) (λ i l. at i (rw p at l))
+    where
+      at : (i : ℕ) → i < tablesSize → Same i
+      at i l =
+          by-bool (λ (c : Bool). ltb i 176 ≡ c → Same i) (λ c. in-head i (ltb-true i 176 c))
+          (λ c. let m : 176 ≤ i = ltb-false i 176 c in
+          by-bool (λ (d : Bool). ltb i 3504 ≡ d → Same i)
+          (λ d. let y : i < 3504 = ltb-true i 3504 d in
+          let s : 176 + (i - 176) ≡ i = omega arith in
+          rw s at (in-phys (i - 176) (omega arith)))
+          (λ d. let y : 3504 ≤ i = ltb-false i 3504 d in
+          let s : 3504 + (i - 3504) ≡ i = omega arith in
+          rw s at (in-rows (i - 3504) (omega arith)))
+          (ltb i 3504) refl)
+          (ltb i 176) refl
