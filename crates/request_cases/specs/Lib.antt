@@ -1,1 +1,4 @@
 pub mod Digest
+pub mod Fields
+pub mod Patch
+pub mod Lines

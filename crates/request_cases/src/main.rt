@@ -19,14 +19,15 @@ use digest::digest;
 use digest::state_digest;
 use libc::STDIN_FILENO;
 use libc::STDOUT_FILENO;
+use line::end;
 use line::field;
-use line::past;
 use line::patch;
 use line::word;
 ghost use mathlib.Core.Path.{_≡_};
-ghost use Prim.Native.Nat.{_<_, _≤_};
+ghost use Prim.Native.Nat.{_≤_};
 ghost use lib.ListN.{length};
 ghost use Rattle.state.specs.State.{stateSize};
+ghost use Rattle.request_cases.specs.Lines.{filled, headed, requestOf, blockLine, fileLine};
 
 // Where the phys and the rows of a state start. Before them stand the level, the two counts and the driver info.
 const PHYS: usize = 177;
@@ -62,7 +63,9 @@ fn open(text: &[u8], file: &[u8], medium: &[u8], state: &mut [u8])
 }
 
 // Byte i becomes step × (i + 1) modulo 251, so step 0 makes zeros.
-fn fill(d: &mut [u8], step: u32) {
+fn fill(d: &mut [u8], step: u32)
+    ensures { λ _. ⌜ now (d .exit) ≡ filled step (length (now (d .entry))) ⌝ }
+{
     let by = step % 251;
     let mut v = 0;
     let mut i = 0;
@@ -85,6 +88,7 @@ fn open_line(state: &mut [u8], s: &[u8], file: &[u8], medium: &mut [u8])
 
 fn put_header(buffer: &mut [u8], control: u32, n: u32)
     requires { ⌜ 28 ≤ length (now buffer) ⌝ }
+    ensures { λ _. ⌜ now (buffer .exit) ≡ headed (now (buffer .entry)) control n ⌝ }
 {
     wire::copy_at(buffer, 0, b"\x1c\0\0\0CSMISAS\0");
     wire::write32(buffer, 16, control);
@@ -93,6 +97,7 @@ fn put_header(buffer: &mut [u8], control: u32, n: u32)
 
 fn put_request(buffer: &mut [u8], s: &[u8])
     requires { ⌜ 28 ≤ length (now buffer) ⌝ }
+    ensures { λ _. ⌜ now (buffer .exit) ≡ requestOf (now (s .entry)) (length (now (buffer .entry))) ⌝ }
 {
     fill(buffer, field(s, 3));
     put_header(buffer, field(s, 4), field(s, 5));
@@ -140,21 +145,24 @@ fn heading(s: &[u8]) {
     say(b"\n");
 }
 
-fn patch_block(s: &[u8], file: &mut [u8], k: usize)
-    requires { ⌜ (length (now file) ≡ 65536) × (k < 128) ⌝ }
+fn block_line(file: &mut [u8], s: &[u8])
+    requires { ⌜ length (now file) ≡ 65536 ⌝ }
+    ensures { λ _. ⌜ now (file .exit) ≡ blockLine (now (file .entry)) (now (s .entry)) ⌝ }
 {
-    patch(&mut file[512 * k..], s, 2);
+    let at = 512 * (field(s, 1) % 128) as usize;
+    patch(&mut file[at..], s, 2);
 }
 
-fn file_line(s: &[u8], file: &mut [u8], c: u8)
+fn file_line(file: &mut [u8], s: &[u8], c: u8)
     requires { ⌜ length (now file) ≡ 65536 ⌝ }
+    ensures { λ _. ⌜ now (file .exit) ≡ fileLine (now (file .entry)) (now (s .entry)) c ⌝ }
 {
     if c == b'f' {
         fill(file, 0);
         return;
     }
     if c == b'p' {
-        patch_block(s, file, (field(s, 1) % 128) as usize);
+        block_line(file, s);
         return;
     }
     if c == b'#' {
@@ -181,12 +189,12 @@ fn do_lines(state: &mut [u8], input: &[u8], file: &mut [u8], medium: &mut [u8])
 {
     let mut from = 0;
     while from < input.len() {
-        let end = past(input, from, b'\n');
-        let line = &input[from..end - 1];
+        let to = end(input, from, b'\n');
+        let line = &input[from..to];
         let c = input[from];
-        file_line(line, file, c);
+        file_line(file, line, c);
         call_line(state, line, file, medium, c);
-        from = end;
+        from = to + 1;
     }
 }
 

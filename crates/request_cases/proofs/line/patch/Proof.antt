@@ -1,13 +1,14 @@
 -- `request_cases::line::patch` meets its contract. Assumes nothing.
 use mathlib.Core.Path.{_≡_}
-use Prim.Native.Nat.{_≤_, _-_}
-use lib.ListN.{length}
-use borrow.Author.Needs.{needs}
+use Prim.Native.Nat.{_-_}
+use lib.ListN.{length, drop}
+use Rattle.request_cases.specs.Fields.{words}
+use Rattle.request_cases.specs.Patch.{patched, putAll, puts-loop}
 use Rattle.request_cases.proofs.line.patch.Statement.{statement}
 use Rattle.request_cases.proofs.line.patch.Tie as tie
 
 abbrev Inv-loop : tie.InvT-loop
-Inv-loop d₀ s k at₀ d at = (at ≤ length s) × (length d ≡ length d₀)
+Inv-loop d₀ s k at₀ d at = (length d ≡ length d₀) × (patched d₀ s k ≡ putAll d (words (drop at s)))
 
 abbrev μ-loop : tie.MeasureT-loop
 μ-loop d₀ s k at₀ d at = length s - at
@@ -15,5 +16,6 @@ abbrev μ-loop : tie.MeasureT-loop
 pub patch-spec : {M : Type 1} → statement M
 patch-spec =
     tie.close
-    (tie.spec Inv-loop μ-loop (λ c κs. search needs) (λ c. search needs) (λ c κs. search needs) (λ c κs. search needs)
-    (λ c. search needs) (λ c. search needs) (λ c. search needs) (λ c. search needs))
+    (tie.spec Inv-loop μ-loop (λ c κs. search puts-loop) (λ c. search puts-loop) (λ c κs. search puts-loop) (λ c. search puts-loop)
+    (λ c. search puts-loop) (λ c. search puts-loop) (λ c κs. search puts-loop) (λ c. search puts-loop) (λ c. search puts-loop)
+    (λ c. search puts-loop) (λ c. search puts-loop) (λ c. search puts-loop))

@@ -2,19 +2,21 @@
 use mathlib.Core.Path.{_≡_}
 use Prim.Native.Nat.{_≤_, _-_}
 use lib.ListN.{length}
-use borrow.Author.Needs.{needs}
+use Rattle.laws.specs.Splice.{splice}
+use Rattle.laws.specs.Fill.{listTo}
+use Rattle.request_cases.specs.Patch.{byteAt, put-loop}
 use Rattle.request_cases.proofs.line.put_bytes.Statement.{statement}
 use Rattle.request_cases.proofs.line.put_bytes.Tie as tie
 
 abbrev Inv-loop : tie.InvT-loop
-Inv-loop d₀ at s from i₀ d i = (from ≤ i) × (length d ≡ length d₀)
+Inv-loop d₀ at h n j₀ d j = (j ≤ n) × (length d ≡ length d₀) × (d ≡ splice d₀ at (listTo (byteAt h) j))
 
 abbrev μ-loop : tie.MeasureT-loop
-μ-loop d₀ at s from i₀ d i = length s - i
+μ-loop d₀ at h n j₀ d j = n - j
 
 pub put-bytes-spec : {M : Type 1} → statement M
 put-bytes-spec =
     tie.close
-    (tie.spec Inv-loop μ-loop (λ c. search needs) (λ c. search needs) (λ c. search needs) (λ c. search needs)
-    (λ c. search needs) (λ c κs. search needs) (λ c. search needs) (λ c. search needs) (λ c. search needs)
-    (λ c. search needs) (λ c. search needs))
+    (tie.spec Inv-loop μ-loop (λ c κs. search put-loop) (λ c. search put-loop) (λ c. search put-loop) (λ c. search put-loop)
+    (λ c. search put-loop) (λ c. search put-loop) (λ c. search put-loop) (λ c κs. search put-loop) (λ c. search put-loop)
+    (λ c. search put-loop) (λ c. search put-loop) (λ c. search put-loop) (λ c. search put-loop) (λ c. search put-loop) (λ c. search put-loop))

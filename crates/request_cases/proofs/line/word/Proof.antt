@@ -1,12 +1,13 @@
 -- `request_cases::line::word` meets its contract. Assumes nothing.
+use mathlib.Core.Path.{_≡_}
 use Prim.Native.Nat.{_≤_, _-_}
-use lib.ListN.{length}
-use borrow.Author.Needs.{needs}
+use lib.ListN.{length, drop}
+use Rattle.request_cases.specs.Fields.{fromWord, cut-loop}
 use Rattle.request_cases.proofs.line.word.Statement.{statement}
 use Rattle.request_cases.proofs.line.word.Tie as tie
 
 abbrev Inv-loop : tie.InvT-loop
-Inv-loop s k at₀ n₀ at n = (n ≤ k) × (at ≤ length s)
+Inv-loop s k at₀ n₀ at n = (n ≤ k) × (at ≤ length s) × (drop at s ≡ fromWord s n)
 
 abbrev μ-loop : tie.MeasureT-loop
 μ-loop s k at₀ n₀ at n = k - n
@@ -14,5 +15,5 @@ abbrev μ-loop : tie.MeasureT-loop
 pub word-spec : {M : Type 1} → statement M
 word-spec =
     tie.close
-    (tie.spec Inv-loop μ-loop (λ c. search needs) (λ c κs. search needs) (λ c. search needs) (λ c. search needs)
-    (λ c. search needs) (λ c. search needs) (λ c. search needs))
+    (tie.spec Inv-loop μ-loop (λ c. search cut-loop) (λ c κs. search cut-loop) (λ c. search cut-loop) (λ c. search cut-loop)
+    (λ c. search cut-loop) (λ c. search cut-loop))

@@ -1,0 +1,12 @@
+-- `request_cases::damage::phy_line` meets its contract. Assumes nothing.
+use Rattle.request_cases.specs.Lines.{phyLine}
+use borrow.Author.Needs.{needs}
+use Rattle.request_cases.proofs.damage.phy_line.Statement.{statement}
+use Rattle.request_cases.proofs.damage.phy_line.Tie as tie
+
+pub phy-line-spec : {M : Type 1} → statement M
+unfolding phyLine
+phy-line-spec =
+    tie.close
+    (tie.spec (λ c κs. search needs) (λ c. search needs) (λ c. search needs) (λ c. search needs) (λ c κs. search needs)
+    (λ c. search needs) (λ c. cc))

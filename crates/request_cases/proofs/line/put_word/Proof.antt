@@ -1,0 +1,11 @@
+-- `request_cases::line::put_word` meets its contract. Assumes nothing.
+use borrow.Author.Needs.{needs}
+use Rattle.request_cases.specs.Patch.{word-by}
+use Rattle.request_cases.proofs.line.put_word.Statement.{statement}
+use Rattle.request_cases.proofs.line.put_word.Tie as tie
+
+pub put-word-spec : {M : Type 1} → statement M
+put-word-spec =
+    tie.close
+    (tie.spec (λ c κs. search needs) (λ c. search needs) (λ c κs. search needs) (λ c. search needs) (λ c. search needs)
+    (λ c. search needs) (λ c κs. search needs) (λ c. search needs) (λ c. search (word-by, needs)))

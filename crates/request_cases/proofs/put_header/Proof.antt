@@ -1,0 +1,11 @@
+-- `request_cases::put_header` meets its contract. Assumes nothing.
+use Rattle.request_cases.specs.Lines.{headed-by}
+use borrow.Author.Needs.{needs}
+use Rattle.request_cases.proofs.put_header.Statement.{statement}
+use Rattle.request_cases.proofs.put_header.Tie as tie
+
+pub put-header-spec : {M : Type 1} → statement M
+put-header-spec =
+    tie.close
+    (tie.spec (λ c. search needs) (λ c κs. search needs) (λ c κs. search needs) (λ c κs. search needs)
+    (λ c. search needs) (λ c. search (headed-by, needs)))
