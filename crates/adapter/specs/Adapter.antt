@@ -2,7 +2,7 @@
 -- "From the state"). Assumes nothing.
 use mathlib.Core.Bool.{Bool, _&&_}
 use mathlib.Core.List.{List}
-use Prim.Native.Nat.{ℕ, _+_, _-_, _*_}
+use Prim.Native.Nat.{ℕ, _+_, _-_, _*_, _≤_}
 use lib.Dec.{leb}
 use lib.ListN.{getD, set, replicate}
 use Rattle.laws.specs.All.{allTo}
@@ -48,6 +48,13 @@ zeroAdapter =
 -- "the phy count p (1–32)", "the row count a (0–64)"
 unfoldable pub countsHold : ℕ → ℕ → Bool
 countsHold p a = leb 1 p && leb p 32 && leb a 64
+
+-- what the rule on the counts says of each, as the code that goes through phys or rows asks it
+abbrev pub FewPhys : Adapter → Type 0
+FewPhys ad = ad .«phy_count» ≤ 32
+
+abbrev pub FewRows : Adapter → Type 0
+FewRows ad = ad .«row_count» ≤ 64
 
 -- "medium length 8,192 × p"
 abbrev pub mediumSize : Adapter → ℕ

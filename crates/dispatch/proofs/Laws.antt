@@ -1,13 +1,13 @@
 -- What the proofs of this crate and the layers above cite. Assumes nothing.
 use mathlib.Core.Path.{_≡_, refl, sym, _∙_, ap}
-use mathlib.Core.Bool.{Bool, true, false, cond}
+use mathlib.Core.Bool.{true, false, cond}
 use mathlib.Core.List.{List, _++_, append-nil}
 use Prim.Native.Nat.{ℕ, _+_, _-_, _≤_}
 use native.Mathlib.Omega.{arith}
 use lib.Dec.{eqb, ltb}
 use lib.ListN.{length, getD, take, drop}
-use borrow.Author.Tests.{eqb-true, eqb-false, ltb-false}
-use Rattle.laws.specs.Choice.{by-bool, came-then, came-else}
+use borrow.Author.Tests.{eqb-true, ltb-false}
+use Rattle.laws.specs.Choice.{came-then, came-else, both-zero}
 use Rattle.laws.specs.Splice.{rest, rest-end}
 use Rattle.codes.specs.Codes.{shortBuffer, badState, writeAttempted}
 use mir.Syntax.{w32}
@@ -62,10 +62,6 @@ checks-higher l m r = access-higher l m (r .buffer)
 
 -- ---- a call whose number is 0
 
--- of two numbers in order the first that is not 0
-numbered : (n m : ℕ) → cond (eqb n 0) m n ≡ 0 → (n ≡ 0) × (m ≡ 0)
-numbered n m h = by-bool (λ (b : Bool). eqb n 0 ≡ b → cond b m n ≡ 0 → (n ≡ 0) × (m ≡ 0)) (λ e p. (eqb-true n 0 e, p)) (λ e p. absurd (eqb-false n 0 e p)) (eqb n 0) refl h
-
 Zero : ℕ → Type 0
 Zero n = n ≡ 0
 
@@ -89,7 +85,7 @@ module _ (f : Form) (number buffer call : ℕ) (e : call ≡ bufferNumber f numb
   buffer-known : (number ≡ 0) × (f .size ≤ buffer)
   unfolding bufferNumber Zero
   buffer-known =
-      let a = numbered number (cond (ltb buffer (f .size)) shortBuffer 0) (sym e ∙ z) in
+      let a = both-zero number (cond (ltb buffer (f .size)) shortBuffer 0) (sym e ∙ z) in
       (a .0, ltb-false buffer (f .size) (came-else Zero (ltb buffer (f .size)) (λ q. omega arith) (a .1) .0))
 
   pub heard-number : number ≡ 0

@@ -3,7 +3,7 @@
 use mathlib.Core.Path.{_≡_}
 use mathlib.Core.Bool.{Bool, cond}
 use mathlib.Core.List.{List, _++_}
-use Prim.Native.Nat.{ℕ}
+use Prim.Native.Nat.{ℕ, _+_, _≤_}
 use lib.Dec.{eqb, ltb}
 use lib.ListN.{length, take}
 use Rattle.codes.specs.Codes.{success, shortBuffer, badMediumLength, badState}
@@ -11,6 +11,7 @@ use Rattle.level.specs.declared.Level.{Level}
 use Rattle.state.specs.State.{State, stateWith, stateSize, stateOf, stateHolds}
 use Rattle.adapter.specs.Adapter.{Adapter, mediumSize}
 use Rattle.header.specs.Form.{Form, srb, behindHeader, withCode}
+use Rattle.header.specs.Table.{structureSize, dataSize}
 use Rattle.header.specs.Header.{controlCode, levelRefuses, accessCode}
 use Rattle.service.specs.Serve.{Store, Served, served}
 
@@ -32,6 +33,10 @@ controlOf r = controlCode (r .buffer)
 
 abbrev pub bodyOf : Request → List ℕ
 bodyOf r = behindHeader (formOf r) (r .buffer)
+
+-- its structure and its data are there
+abbrev pub Whole : Request → Type 0
+Whole r = structureSize (controlOf r) + dataSize (controlOf r) (bodyOf r) ≤ length (bodyOf r)
 
 -- the return code of its header's checks and of the level's, or 0
 abbrev pub checksCode : Level → Request → ℕ
@@ -97,13 +102,17 @@ pending code ad store buffer = record { code = code; adapter = ad; store = store
 abbrev pub inBuffer : Request → Served → Pending
 inBuffer r s = pending (s .code) (s .adapter) (s .store) (take (formOf r .size) (r .buffer) ++ s .body)
 
+-- a request that is served
+abbrev pub servedRequest : Adapter → Store → Request → Pending
+servedRequest ad store r = inBuffer r (served ad store (controlOf r) (bodyOf r))
+
 -- a request that a check up to the level refuses: nothing is changed but the code, which is still to be written
 abbrev pub refusedRequest : ℕ → Adapter → Store → Request → Pending
 refusedRequest code ad store r = pending code ad store (r .buffer)
 
 -- "then the code's own checks", where the checks up to the level gave 0; else their code
 unfoldable pub answered : Adapter → Store → Request → ℕ → Pending
-answered ad store r code = cond (eqb code success) (inBuffer r (served ad store (controlOf r) (bodyOf r))) (refusedRequest code ad store r)
+answered ad store r code = cond (eqb code success) (servedRequest ad store r) (refusedRequest code ad store r)
 
 -- the return code in its place, and "The call's number is 0 when a return code is written"
 abbrev pub replied : Form → Level → Pending → Outcome

@@ -2,26 +2,25 @@
 use level::Level;
 ghost use mathlib.Core.Path.{_≡_};
 ghost use mathlib.Core.Bool.{true};
-ghost use Prim.Native.Nat.{_+_, _≤_};
+ghost use Prim.Native.Nat.{_≤_};
 ghost use lib.ListN.{length};
-ghost use Rattle.adapter.specs.Adapter.{mediumSize};
+ghost use Rattle.adapter.specs.Adapter.{FewPhys, FewRows, mediumSize};
 ghost use Rattle.tables.specs.Tables.{tablesSize, tablesOf};
-ghost use Rattle.header.specs.Table.{structureSize, dataSize};
 ghost use Rattle.header.specs.Form.{srb, returnCode, withCode};
-ghost use Rattle.service.specs.Serve.{storeOf, served};
+ghost use Rattle.service.specs.Serve.{storeOf};
 ghost use Rattle.state.specs.State.{stateWith, stateSize, stateOf, stateHolds};
-ghost use Rattle.dispatch.specs.Request.{requestOf, controlOf, bodyOf, checksCode, point, outcome, stateNumber, bufferNumber, pending, inBuffer, answered, answeredAt, handled, RequestCall};
+ghost use Rattle.dispatch.specs.Request.{requestOf, Whole, checksCode, point, outcome, stateNumber, bufferNumber};
+ghost use Rattle.dispatch.specs.Request.{pending, servedRequest, answered, answeredAt, handled, RequestCall};
 
 // The body behind the header is lent to the code's own checks and effect.
 fn serve_body(tables: &mut [u8], medium: &mut [u8], buffer: &mut [u8]) -> u32
     requires { ⌜ length (now tables) ≡ tablesSize ⌝ }
-    requires { ⌜ (tablesOf (now tables) .«phy_count» ≤ 32) × (tablesOf (now tables) .«row_count» ≤ 64) ⌝ }
+    requires { ⌜ FewPhys (tablesOf (now tables)) × FewRows (tablesOf (now tables)) ⌝ }
     requires { ⌜ length (now medium) ≡ mediumSize (tablesOf (now tables)) ⌝ }
     requires { ⌜ srb .size ≤ length (now buffer) ⌝ }
-    requires { ⌜ structureSize (controlOf (requestOf (now buffer))) + dataSize (controlOf (requestOf (now buffer))) (bodyOf (requestOf (now buffer)))
-        ≤ length (bodyOf (requestOf (now buffer))) ⌝ }
+    requires { ⌜ Whole (requestOf (now buffer)) ⌝ }
     ensures { λ code. ⌜ pending code (tablesOf (now (tables .exit))) (storeOf (now (medium .exit))) (now (buffer .exit))
-        ≡ inBuffer (requestOf (now (buffer .entry))) (served (tablesOf (now (tables .entry))) (storeOf (now (medium .entry))) (controlOf (requestOf (now (buffer .entry)))) (bodyOf (requestOf (now (buffer .entry))))) ⌝ }
+        ≡ servedRequest (tablesOf (now (tables .entry))) (storeOf (now (medium .entry))) (requestOf (now (buffer .entry))) ⌝ }
 {
     let control = header::control_code(buffer);
     service::serve(tables, medium, control, &mut buffer[header::SIZE..])
@@ -30,11 +29,12 @@ fn serve_body(tables: &mut [u8], medium: &mut [u8], buffer: &mut [u8]) -> u32
 // The header's checks and the level, and then the code's own.
 fn check_and_serve(level: Level, tables: &mut [u8], medium: &mut [u8], buffer: &mut [u8]) -> u32
     requires { ⌜ length (now tables) ≡ tablesSize ⌝ }
-    requires { ⌜ (tablesOf (now tables) .«phy_count» ≤ 32) × (tablesOf (now tables) .«row_count» ≤ 64) ⌝ }
+    requires { ⌜ FewPhys (tablesOf (now tables)) × FewRows (tablesOf (now tables)) ⌝ }
     requires { ⌜ length (now medium) ≡ mediumSize (tablesOf (now tables)) ⌝ }
     requires { ⌜ srb .size ≤ length (now buffer) ⌝ }
     ensures { λ code. ⌜ pending code (tablesOf (now (tables .exit))) (storeOf (now (medium .exit))) (now (buffer .exit))
-        ≡ answered (tablesOf (now (tables .entry))) (storeOf (now (medium .entry))) (requestOf (now (buffer .entry))) (checksCode level (requestOf (now (buffer .entry)))) ⌝ }
+        ≡ answered (tablesOf (now (tables .entry))) (storeOf (now (medium .entry))) (requestOf (now (buffer .entry)))
+        (checksCode level (requestOf (now (buffer .entry)))) ⌝ }
 {
     let code = header::access_code(level, buffer);
     if code == codes::SUCCESS {
@@ -56,7 +56,7 @@ fn write_code(buffer: &mut [u8], code: u32) -> u32
 // What serves a request is lent the tables, and not the level's byte.
 fn reply_at(level: Level, tables: &mut [u8], medium: &mut [u8], buffer: &mut [u8]) -> u32
     requires { ⌜ length (now tables) ≡ tablesSize ⌝ }
-    requires { ⌜ (tablesOf (now tables) .«phy_count» ≤ 32) × (tablesOf (now tables) .«row_count» ≤ 64) ⌝ }
+    requires { ⌜ FewPhys (tablesOf (now tables)) × FewRows (tablesOf (now tables)) ⌝ }
     requires { ⌜ length (now medium) ≡ mediumSize (tablesOf (now tables)) ⌝ }
     requires { ⌜ srb .size ≤ length (now buffer) ⌝ }
     ensures { λ _. ⌜ outcome 0 (point (stateWith level (tablesOf (now (tables .exit)))) (storeOf (now (medium .exit)))) (now (buffer .exit))
@@ -129,7 +129,8 @@ fn handle(state: &mut [u8], medium: &mut [u8], buffer: &mut [u8]) -> u32
 
 // Handles one request. A state of another length is not touched, nor is anything else then.
 pub fn request(state: &mut [u8], medium: &mut [u8], buffer: &mut [u8]) -> u32
-    ensures { λ call. ⌜ RequestCall (now (state .entry)) (storeOf (now (medium .entry))) (now (buffer .entry)) call (now (state .exit)) (storeOf (now (medium .exit))) (now (buffer .exit)) ⌝ }
+    ensures { λ call. ⌜ RequestCall (now (state .entry)) (storeOf (now (medium .entry))) (now (buffer .entry)) call
+        (now (state .exit)) (storeOf (now (medium .exit))) (now (buffer .exit)) ⌝ }
 {
     if state.len() == state::SIZE {
         return handle(state, medium, buffer);

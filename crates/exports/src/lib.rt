@@ -20,7 +20,8 @@ pub extern "C" fn ascheknopf_open(text: &[u8], file: &[u8], medium: &[u8], state
 // Handles one request, in place.
 #[no_mangle]
 pub extern "C" fn ascheknopf_request(state: &mut [u8], medium: &mut [u8], buffer: &mut [u8]) -> u32
-    ensures { λ call. ⌜ RequestCall (now (state .entry)) (storeOf (now (medium .entry))) (now (buffer .entry)) call (now (state .exit)) (storeOf (now (medium .exit))) (now (buffer .exit)) ⌝ }
+    ensures { λ call. ⌜ RequestCall (now (state .entry)) (storeOf (now (medium .entry))) (now (buffer .entry)) call
+        (now (state .exit)) (storeOf (now (medium .exit))) (now (buffer .exit)) ⌝ }
 {
     dispatch::request(state, medium, buffer)
 }

@@ -99,7 +99,8 @@ fn record_sized(
 pub fn run(state: &mut [u8], medium: &mut [u8], session: &mut [u8], lines: &mut [u8]) -> usize
     requires { ⌜ length (now state) ≡ stateSize ⌝ }
     ensures { λ r. ⌜ ran r (storeOf (now (medium .exit))) (now (session .exit)) (now (lines .exit))
-        ≡ ranFrom (length (now (lines .entry)) / 8) (point (stateOf (now (state .entry))) (storeOf (now (medium .entry)))) (now (session .entry)) (now (lines .entry)) ⌝ }
+        ≡ ranFrom (length (now (lines .entry)) / 8) (point (stateOf (now (state .entry))) (storeOf (now (medium .entry))))
+        (now (session .entry)) (now (lines .entry)) ⌝ }
 {
     let number = dispatch::state_number(state, medium.len());
     let mut at = 0;

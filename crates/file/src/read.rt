@@ -7,7 +7,7 @@ ghost use lib.ListN.{length};
 ghost use Rattle.block.specs.Check.{soundTo};
 ghost use Rattle.layout.specs.Layout.{blocks, fileLength};
 ghost use Rattle.layout.specs.Unnamed.{unnamedZero};
-ghost use Rattle.adapter.specs.Adapter.{fieldsAll};
+ghost use Rattle.adapter.specs.Adapter.{FewPhys, fieldsAll};
 ghost use Rattle.tables.specs.Tables.{tablesSize, tablesOf};
 ghost use Rattle.file.specs.File.{reads, refusedFile, fileRead};
 ghost use Rattle.file.specs.Steps.{settledAs, fieldsRead, blocksRead, lengthRead, countsRead, firstRead};
@@ -35,7 +35,7 @@ fn settle(tables: &mut [u8], ok: bool) -> u32
 fn fields_right(tables: &[u8], file: &[u8], p: usize, a: usize) -> bool
     requires { ⌜ (p ≤ 32) × (a ≤ 64) × (length (now file) ≡ fileLength p a) ⌝ }
     requires { ⌜ length (now tables) ≡ tablesSize ⌝ }
-    requires { ⌜ tablesOf (now tables) .«phy_count» ≤ 32 ⌝ }
+    requires { ⌜ FewPhys (tablesOf (now tables)) ⌝ }
     ensures { λ r. ⌜ r ≡ unnamedZero (now (file .entry)) p a && fieldsAll (tablesOf (now (tables .entry))) ⌝ }
 {
     layout::unnamed_zero(file, p, a) & rules::all_fields_hold(tables)

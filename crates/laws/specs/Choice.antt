@@ -9,7 +9,7 @@ use mathlib.Core.Path.{_≡_, refl, sym, _∙_, subst}
 use mathlib.Core.Bool.{Bool, true, false, cond, _&&_, not, false≢true}
 use Prim.Native.Nat.{ℕ}
 use lib.Dec.{eqb}
-use borrow.Author.Tests.{lt-ltb, le-ltb, le-leb, lt-leb, eq-eqb, ne-eqb}
+use borrow.Author.Tests.{lt-ltb, le-ltb, le-leb, lt-leb, eq-eqb, ne-eqb, eqb-true, eqb-false}
 
 -- the test held: the choice is its first answer
 pub if-true {ℓ} : {A : Type ℓ} (t : Bool) (x a b : A) → t ≡ true → x ≡ a → x ≡ cond t a b
@@ -78,3 +78,7 @@ came-then P false h p = absurd (h p)
 pub came-else {ℓ κ} : {A : Type ℓ} (P : A → Type κ) (t : Bool) {a b : A} → (P a → ⊥) → P (cond t a b) → (t ≡ false) × P b
 came-else P true h p = absurd (h p)
 came-else P false h p = (refl, p)
+
+-- of two numbers in order, the first that is not 0: it is 0 where both are
+pub both-zero : (n m : ℕ) → cond (eqb n 0) m n ≡ 0 → (n ≡ 0) × (m ≡ 0)
+both-zero n m h = by-bool (λ (b : Bool). eqb n 0 ≡ b → cond b m n ≡ 0 → (n ≡ 0) × (m ≡ 0)) (λ e p. (eqb-true n 0 e, p)) (λ e p. absurd (eqb-false n 0 e p)) (eqb n 0) refl h

@@ -17,7 +17,7 @@ use native.Mathlib.Omega.{arith}
 use lib.ListN.{length, getD, set, take, drop, length-drop}
 use lib.Seq.{paste, paste-zero, paste-suc, getD-drop}
 use borrow.Author.Needs.{needs}
-use Rattle.laws.specs.Splice.{part, splice, part-all, length-part, length-splice}
+use Rattle.laws.specs.Splice.{part, splice, part-all, length-part}
 
 module _ {A : Type 0} where
   -- a splice of a part, as the copy of n elements

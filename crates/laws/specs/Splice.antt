@@ -3,7 +3,7 @@
 use mathlib.Core.Path.{_≡_, refl, sym, _∙_, ap}
 use mathlib.Core.List.{List, [], _∷_, _++_, append-assoc, append-nil}
 use Prim.Native.Nat.{ℕ, zero, suc, _+_, _-_, _<_, _≤_}
-use native.Mathlib.Nat.{add-zero, sub-zero, zero-sub, suc-sub-suc, add-sub-cancel-left}
+use native.Mathlib.Nat.{sub-zero, zero-sub, suc-sub-suc, add-sub-cancel-left}
 use native.Mathlib.Omega.{arith}
 use lib.ListN.{length, getD, take, drop, replicate, drop-of-length-le, length-append, length-drop, length-replicate, getD-replicate, List·getD-append}
 use lib.Seq.{ext-getD, take-add, length-take-le, take-at, take-all, take-take, take-length, take-append-le, take-nil, drop-drop, drop-at, drop-append-le, drop-append-add, getD-take, getD-drop, getD-append-add, sets, sets-eq}

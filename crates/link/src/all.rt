@@ -5,7 +5,7 @@ ghost use mathlib.Core.Path.{_≡_};
 ghost use Prim.Native.Nat.{ℕ, _<_, _≤_};
 ghost use lib.ListN.{length};
 ghost use Rattle.laws.specs.All.{allTo};
-ghost use Rattle.adapter.specs.Adapter.{phyIn};
+ghost use Rattle.adapter.specs.Adapter.{FewPhys, phyIn};
 ghost use Rattle.tables.specs.Tables.{tablesSize, tablesOf};
 ghost use Rattle.link.specs.Rule.{negotiatedHolds};
 ghost use Rattle.link.specs.All.{negotiatedAll};
@@ -35,7 +35,7 @@ fn phys_negotiated(tables: &[u8], p: u8) -> bool
 // The negotiated rate of each phy is 1 or what the link rule gives.
 pub fn all_negotiated(tables: &[u8]) -> bool
     requires { ⌜ length (now tables) ≡ tablesSize ⌝ }
-    requires { ⌜ tablesOf (now tables) .«phy_count» ≤ 32 ⌝ }
+    requires { ⌜ FewPhys (tablesOf (now tables)) ⌝ }
     ensures { λ r. ⌜ r ≡ negotiatedAll (tablesOf (now (tables .entry))) ⌝ }
 {
     phys_negotiated(tables, tables::phy_count(tables))

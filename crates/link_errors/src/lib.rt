@@ -7,10 +7,10 @@ ghost use Prim.Native.Nat.{_<_, _≤_};
 ghost use lib.ListN.{length};
 ghost use Rattle.phy.specs.Change.{cleared};
 ghost use Rattle.codes.specs.Codes.{success};
-ghost use Rattle.adapter.specs.Adapter.{phyIn, withPhy};
-ghost use Rattle.adapter.specs.Changed.{gives, leaves, withBody};
+ghost use Rattle.adapter.specs.Adapter.{FewPhys, withPhy};
+ghost use Rattle.adapter.specs.Changed.{gives, leaves};
 ghost use Rattle.tables.specs.Tables.{tablesSize, tablesOf};
-ghost use Rattle.link_errors.specs.LinkErrors.{countersShown, afterReset, linkErrors};
+ghost use Rattle.link_errors.specs.LinkErrors.{countersShown, afterReset, shownAndReset, linkErrors};
 
 fn put_counters(counters: [u32; 4], body: &mut [u8])
     requires { ⌜ 20 ≤ length (now body) ⌝ }
@@ -46,7 +46,7 @@ fn show_counters(tables: &mut [u8], n: PhyIdentifier, byte: u8, body: &mut [u8])
     requires { ⌜ n .0 < 32 ⌝ }
     requires { ⌜ length (now tables) ≡ tablesSize ⌝ }
     requires { ⌜ 20 ≤ length (now body) ⌝ }
-    ensures { λ code. ⌜ leaves code (tablesOf (now (tables .exit))) (now (body .exit)) ≡ withBody (afterReset (tablesOf (now (tables .entry))) n (phyIn (tablesOf (now (tables .entry))) (n .0)) byte) (countersShown (now (body .entry)) (phyIn (tablesOf (now (tables .entry))) (n .0) .counters)) ⌝ }
+    ensures { λ code. ⌜ leaves code (tablesOf (now (tables .exit))) (now (body .exit)) ≡ shownAndReset (tablesOf (now (tables .entry))) n byte (now (body .entry)) ⌝ }
 {
     let phy = tables::phy_at(tables, n);
     let counters = phy.counters;
@@ -57,7 +57,7 @@ fn show_counters(tables: &mut [u8], n: PhyIdentifier, byte: u8, body: &mut [u8])
 // Reports a phy's four counters, and clears them where the reset byte is 1.
 pub fn get_link_errors(tables: &mut [u8], body: &mut [u8]) -> u32
     requires { ⌜ length (now tables) ≡ tablesSize ⌝ }
-    requires { ⌜ tablesOf (now tables) .«phy_count» ≤ 32 ⌝ }
+    requires { ⌜ FewPhys (tablesOf (now tables)) ⌝ }
     requires { ⌜ 20 ≤ length (now body) ⌝ }
     ensures { λ code. ⌜ leaves code (tablesOf (now (tables .exit))) (now (body .exit)) ≡ linkErrors (tablesOf (now (tables .entry))) (now (body .entry)) ⌝ }
 {

@@ -8,7 +8,7 @@ ghost use mathlib.Core.Path.{_≡_};
 ghost use Prim.Native.Nat.{_+_, _*_, _<_, _≤_};
 ghost use lib.ListN.{length};
 ghost use Rattle.stp.specs.Body.{dataLength};
-ghost use Rattle.adapter.specs.Adapter.{mediumSize, phyIn};
+ghost use Rattle.adapter.specs.Adapter.{FewPhys, mediumSize, phyIn};
 ghost use Rattle.tables.specs.Tables.{tablesSize, tablesOf};
 ghost use Rattle.select.specs.Select.{selectIn};
 ghost use Rattle.stp.specs.Body.{phyAsked, portAsked, connectionRate, destinationOf};
@@ -75,7 +75,7 @@ fn connect(tables: &[u8], medium: &mut [u8], body: &mut [u8], n: PhyIdentifier) 
 
 fn pass_to(tables: &[u8], medium: &mut [u8], body: &mut [u8], s: Selection) -> u32
     requires { ⌜ length (now tables) ≡ tablesSize ⌝ }
-    requires { ⌜ tablesOf (now tables) .«phy_count» ≤ 32 ⌝ }
+    requires { ⌜ FewPhys (tablesOf (now tables)) ⌝ }
     requires { ⌜ length (now medium) ≡ mediumSize (tablesOf (now tables)) ⌝ }
     requires { ⌜ 136 + dataLength (now body) ≤ length (now body) ⌝ }
     requires { ⌜ s ≡ selectIn (tablesOf (now tables)) (phyAsked (now body)) (portAsked (now body)) ⌝ }
@@ -90,7 +90,7 @@ fn pass_to(tables: &[u8], medium: &mut [u8], body: &mut [u8], s: Selection) -> u
 
 fn pass_selected(tables: &[u8], medium: &mut [u8], body: &mut [u8]) -> u32
     requires { ⌜ length (now tables) ≡ tablesSize ⌝ }
-    requires { ⌜ tablesOf (now tables) .«phy_count» ≤ 32 ⌝ }
+    requires { ⌜ FewPhys (tablesOf (now tables)) ⌝ }
     requires { ⌜ length (now medium) ≡ mediumSize (tablesOf (now tables)) ⌝ }
     requires { ⌜ 136 + dataLength (now body) ≤ length (now body) ⌝ }
     ensures { λ code. ⌜ passes code (now (medium .exit)) (now (body .exit))
@@ -108,7 +108,7 @@ fn pass_selected(tables: &[u8], medium: &mut [u8], body: &mut [u8]) -> u32
 // Selects a phy, and sends the command to its disk if it is connected.
 pub fn pass_through(tables: &[u8], medium: &mut [u8], body: &mut [u8]) -> u32
     requires { ⌜ length (now tables) ≡ tablesSize ⌝ }
-    requires { ⌜ tablesOf (now tables) .«phy_count» ≤ 32 ⌝ }
+    requires { ⌜ FewPhys (tablesOf (now tables)) ⌝ }
     requires { ⌜ length (now medium) ≡ mediumSize (tablesOf (now tables)) ⌝ }
     requires { ⌜ 136 + dataLength (now body) ≤ length (now body) ⌝ }
     ensures { λ code. ⌜ passes code (now (medium .exit)) (now (body .exit))

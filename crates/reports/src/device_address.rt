@@ -4,6 +4,7 @@ ghost use Prim.Native.Nat.{_<_, _≤_};
 ghost use lib.ListN.{length};
 ghost use Rattle.laws.specs.Splice.{part, splice};
 ghost use Rattle.rows.specs.Row.{rowAt, osIndex};
+ghost use Rattle.adapter.specs.Adapter.{FewRows};
 ghost use Rattle.tables.specs.Tables.{tablesSize, tablesOf};
 ghost use Rattle.reports.specs.Report.{report, filled};
 ghost use Rattle.reports.specs.DeviceAddress.{sasBytes, deviceAddress};
@@ -42,7 +43,7 @@ fn give_sas(tables: &[u8], a: usize, i: usize, body: &mut [u8]) -> u32
 
 pub fn get_device_address(tables: &[u8], body: &mut [u8]) -> u32
     requires { ⌜ length (now tables) ≡ tablesSize ⌝ }
-    requires { ⌜ tablesOf (now tables) .«row_count» ≤ 64 ⌝ }
+    requires { ⌜ FewRows (tablesOf (now tables)) ⌝ }
     requires { ⌜ 20 ≤ length (now body) ⌝ }
     ensures { λ code. ⌜ report code (now (body .exit))
         ≡ deviceAddress (tablesOf (now (tables .entry)) .rows) (tablesOf (now (tables .entry)) .«row_count») (now (body .entry)) ⌝ }

@@ -5,6 +5,7 @@ ghost use Prim.Native.Nat.{_*_, _≤_};
 ghost use lib.ListN.{length};
 ghost use Rattle.laws.specs.Flat.{flatTo};
 ghost use Rattle.laws.specs.Splice.{splice};
+ghost use Rattle.adapter.specs.Adapter.{FewPhys};
 ghost use Rattle.tables.specs.Tables.{tablesSize, tablesOf};
 ghost use Rattle.reports.specs.Report.{report};
 ghost use Rattle.reports.specs.PhyInfo.{entityAt, entities, phyInfo};
@@ -49,7 +50,7 @@ fn fill_entities(tables: &[u8], p: u8, body: &mut [u8])
 
 pub fn get_phy_info(tables: &[u8], body: &mut [u8]) -> u32
     requires { ⌜ length (now tables) ≡ tablesSize ⌝ }
-    requires { ⌜ tablesOf (now tables) .«phy_count» ≤ 32 ⌝ }
+    requires { ⌜ FewPhys (tablesOf (now tables)) ⌝ }
     requires { ⌜ 2052 ≤ length (now body) ⌝ }
     ensures { λ code. ⌜ report code (now (body .exit))
         ≡ phyInfo (tablesOf (now (tables .entry)) .phys) (tablesOf (now (tables .entry)) .«phy_count») (now (body .entry)) ⌝ }

@@ -5,7 +5,7 @@ ghost use mathlib.Core.Path.{_≡_};
 ghost use Prim.Native.Nat.{_<_, _≤_};
 ghost use lib.ListN.{length};
 ghost use Rattle.laws.specs.Splice.{splice};
-ghost use Rattle.adapter.specs.Adapter.{phyIn};
+ghost use Rattle.adapter.specs.Adapter.{FewPhys, phyIn};
 ghost use Rattle.tables.specs.Tables.{tablesSize, tablesOf};
 ghost use Rattle.reports.specs.Report.{report, filled};
 ghost use Rattle.reports.specs.Signature.{signatureOf, sataSignature};
@@ -43,7 +43,7 @@ fn existing_signature(tables: &[u8], n: PhyIdentifier, body: &mut [u8]) -> u32
 
 pub fn get_signature(tables: &[u8], body: &mut [u8]) -> u32
     requires { ⌜ length (now tables) ≡ tablesSize ⌝ }
-    requires { ⌜ tablesOf (now tables) .«phy_count» ≤ 32 ⌝ }
+    requires { ⌜ FewPhys (tablesOf (now tables)) ⌝ }
     requires { ⌜ 24 ≤ length (now body) ⌝ }
     ensures { λ code. ⌜ report code (now (body .exit)) ≡ sataSignature (tablesOf (now (tables .entry))) (now (body .entry)) ⌝ }
 {

@@ -6,7 +6,7 @@ ghost use Prim.Native.Nat.{_<_, _≤_};
 ghost use lib.ListN.{length};
 ghost use Rattle.fields.specs.Rules.{fieldsHold};
 ghost use Rattle.rows.specs.Row.{zeroFrom};
-ghost use Rattle.adapter.specs.Adapter.{phyIn, fieldsAll, zeroPast};
+ghost use Rattle.adapter.specs.Adapter.{FewPhys, FewRows, phyIn, fieldsAll, zeroPast};
 ghost use Rattle.tables.specs.Tables.{tablesSize, tablesOf};
 ghost use Rattle.rules.specs.Past.{physPast};
 ghost use Rattle.rules.specs.Fields.{fieldsTo};
@@ -38,7 +38,7 @@ fn phys_hold(tables: &[u8], p: u8) -> bool
 // Each phy below p passes the field rules.
 pub fn all_fields_hold(tables: &[u8]) -> bool
     requires { ⌜ length (now tables) ≡ tablesSize ⌝ }
-    requires { ⌜ tablesOf (now tables) .«phy_count» ≤ 32 ⌝ }
+    requires { ⌜ FewPhys (tablesOf (now tables)) ⌝ }
     ensures { λ r. ⌜ r ≡ fieldsAll (tablesOf (now (tables .entry))) ⌝ }
 {
     phys_hold(tables, tables::phy_count(tables))
@@ -62,7 +62,7 @@ fn rows_zero_from(tables: &[u8], a: usize) -> bool
 // Every phy from p on and every row from a on is zero.
 pub fn zero_past(tables: &[u8]) -> bool
     requires { ⌜ length (now tables) ≡ tablesSize ⌝ }
-    requires { ⌜ (tablesOf (now tables) .«phy_count» ≤ 32) × (tablesOf (now tables) .«row_count» ≤ 64) ⌝ }
+    requires { ⌜ FewPhys (tablesOf (now tables)) × FewRows (tablesOf (now tables)) ⌝ }
     ensures { λ r. ⌜ r ≡ zeroPast (tablesOf (now (tables .entry))) ⌝ }
 {
     phys_zero_from(tables, tables::phy_count(tables) as usize)

@@ -6,6 +6,7 @@ ghost use mathlib.Core.Bool.{_&&_, not};
 ghost use Prim.Native.Nat.{_<_, _≤_};
 ghost use lib.Dec.{eqb, leb};
 ghost use lib.ListN.{length};
+ghost use Rattle.adapter.specs.Adapter.{FewPhys};
 ghost use Rattle.tables.specs.Tables.{tablesSize, tablesOf};
 ghost use Rattle.select.specs.Laws.{selectionPast};
 ghost use Rattle.select.specs.Select.{phyGiven, portGiven, lowestOf, selection, notSelected, selected, selectBy, portIn, selectIn};
@@ -203,7 +204,7 @@ fn select_below(tables: &[u8], p: u8, phy: PhyIdentifier, port: PortIdentifier) 
 // The phy for a phy identifier and a port identifier, each of which may stand for none.
 pub fn select_phy(tables: &[u8], phy: PhyIdentifier, port: PortIdentifier) -> Selection
     requires { ⌜ length (now tables) ≡ tablesSize ⌝ }
-    requires { ⌜ tablesOf (now tables) .«phy_count» ≤ 32 ⌝ }
+    requires { ⌜ FewPhys (tablesOf (now tables)) ⌝ }
     ensures { λ r. ⌜ r ≡ selectIn (tablesOf (now (tables .entry))) phy port ⌝ }
 {
     select_below(tables, tables::phy_count(tables), phy, port)

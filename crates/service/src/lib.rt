@@ -2,7 +2,7 @@
 ghost use mathlib.Core.Path.{_≡_};
 ghost use Prim.Native.Nat.{_+_, _≤_};
 ghost use lib.ListN.{length};
-ghost use Rattle.adapter.specs.Adapter.{mediumSize};
+ghost use Rattle.adapter.specs.Adapter.{FewPhys, FewRows, mediumSize};
 ghost use Rattle.tables.specs.Tables.{tablesSize, tablesOf};
 ghost use Rattle.reports.specs.Report.{report};
 ghost use Rattle.header.specs.Table.{structureSize, dataSize};
@@ -10,7 +10,7 @@ ghost use Rattle.service.specs.Serve.{storeOf, serves, reportOf, served}
 
 fn report(tables: &[u8], control: u32, body: &mut [u8]) -> u32
     requires { ⌜ length (now tables) ≡ tablesSize ⌝ }
-    requires { ⌜ (tablesOf (now tables) .«phy_count» ≤ 32) × (tablesOf (now tables) .«row_count» ≤ 64) ⌝ }
+    requires { ⌜ FewPhys (tablesOf (now tables)) × FewRows (tablesOf (now tables)) ⌝ }
     requires { ⌜ structureSize control ≤ length (now body) ⌝ }
     ensures { λ code. ⌜ report code (now (body .exit)) ≡ reportOf (tablesOf (now (tables .entry))) control (now (body .entry)) ⌝ }
 {
@@ -36,7 +36,7 @@ fn report(tables: &[u8], control: u32, body: &mut [u8]) -> u32
 // Serves a request whose header and level passed.
 pub fn serve(tables: &mut [u8], medium: &mut [u8], control: u32, body: &mut [u8]) -> u32
     requires { ⌜ length (now tables) ≡ tablesSize ⌝ }
-    requires { ⌜ (tablesOf (now tables) .«phy_count» ≤ 32) × (tablesOf (now tables) .«row_count» ≤ 64) ⌝ }
+    requires { ⌜ FewPhys (tablesOf (now tables)) × FewRows (tablesOf (now tables)) ⌝ }
     requires { ⌜ length (now medium) ≡ mediumSize (tablesOf (now tables)) ⌝ }
     requires { ⌜ structureSize control + dataSize control (now body) ≤ length (now body) ⌝ }
     ensures { λ code. ⌜ serves code (tablesOf (now (tables .exit))) (storeOf (now (medium .exit))) (now (body .exit))

@@ -6,7 +6,7 @@ ghost use mathlib.Core.Path.{_≡_};
 ghost use Prim.Native.Nat.{_<_, _≤_};
 ghost use lib.ListN.{length};
 ghost use Rattle.codes.specs.Codes.{phyInfoChanged};
-ghost use Rattle.adapter.specs.Adapter.{phyIn, withPhy};
+ghost use Rattle.adapter.specs.Adapter.{FewPhys, phyIn, withPhy};
 ghost use Rattle.adapter.specs.Changed.{gives, leaves};
 ghost use Rattle.tables.specs.Tables.{tablesSize, tablesOf};
 ghost use Rattle.set_phy_info.specs.SetPhyInfo.{phySetting, programmable, resulting, parametersHold, ratesAllowed, relinked, setTo, setChecked, setPhy, setInfo};
@@ -92,7 +92,8 @@ fn store_setting(
     requires { ⌜ n .0 < 32 ⌝ }
     requires { ⌜ length (now tables) ≡ tablesSize ⌝ }
     requires { ⌜ (minimum < 16) × (maximum < 16) ⌝ }
-    ensures { λ code. ⌜ gives code (tablesOf (now (tables .exit))) ≡ gives phyInfoChanged (withPhy (tablesOf (now (tables .entry))) (n .0) (setTo phy s minimum maximum)) ⌝ }
+    ensures { λ code. ⌜ gives code (tablesOf (now (tables .exit)))
+        ≡ gives phyInfoChanged (withPhy (tablesOf (now (tables .entry))) (n .0) (setTo phy s minimum maximum)) ⌝ }
 {
     tables::store_phy(tables, n, set_to(phy, s, minimum, maximum));
     codes::PHY_INFO_CHANGED
@@ -136,7 +137,8 @@ fn set_existing(tables: &mut [u8], n: PhyIdentifier, body: &[u8]) -> u32
     requires { ⌜ n .0 < 32 ⌝ }
     requires { ⌜ length (now tables) ≡ tablesSize ⌝ }
     requires { ⌜ 8 ≤ length (now body) ⌝ }
-    ensures { λ code. ⌜ gives code (tablesOf (now (tables .exit))) ≡ setPhy (tablesOf (now (tables .entry))) n (phyIn (tablesOf (now (tables .entry))) (n .0)) (phySetting (now (body .entry))) ⌝ }
+    ensures { λ code. ⌜ gives code (tablesOf (now (tables .exit)))
+        ≡ setPhy (tablesOf (now (tables .entry))) n (phyIn (tablesOf (now (tables .entry))) (n .0)) (phySetting (now (body .entry))) ⌝ }
 {
     let phy = tables::phy_at(tables, n);
     set_phy(tables, n, phy, phy_setting(body))
@@ -145,7 +147,7 @@ fn set_existing(tables: &mut [u8], n: PhyIdentifier, body: &[u8]) -> u32
 // Sets a phy's signal class and programmed rates, and disables it or resets its link.
 pub fn set_info(tables: &mut [u8], body: &[u8]) -> u32
     requires { ⌜ length (now tables) ≡ tablesSize ⌝ }
-    requires { ⌜ tablesOf (now tables) .«phy_count» ≤ 32 ⌝ }
+    requires { ⌜ FewPhys (tablesOf (now tables)) ⌝ }
     requires { ⌜ 8 ≤ length (now body) ⌝ }
     ensures { λ code. ⌜ leaves code (tablesOf (now (tables .exit))) (now (body .entry)) ≡ setInfo (tablesOf (now (tables .entry))) (now (body .entry)) ⌝ }
 {

@@ -7,7 +7,7 @@ use native.Mathlib.Omega.{arith}
 use lib.Dec.{eqb, leb}
 use lib.ListN.{length}
 use borrow.Author.Tests.{le-leb, eqb-true, eqb-false}
-use Rattle.laws.specs.Choice.{by-bool, both, came-then}
+use Rattle.laws.specs.Choice.{by-bool, both, came-then, both-zero}
 use Rattle.level.specs.Text.{textLevel}
 use Rattle.level.proofs.BoundLaws.{level-bound}
 use Rattle.rows.specs.Row.{rowsHold}
@@ -44,7 +44,7 @@ unfolding openedOf openedText openedFile openNumber tablesNumber
 open-accepted text file medium h =
     let t = passes (textLevel text .call) _ h in
     let n = settles (openNumber (fileRead file) (length medium)) _ (t .1) in
-    let f = first (fileRead file .call) _ n in
+    let f = both-zero (fileRead file .call) _ n in
     let a : Accepted file = accepted file (f .0) in
     let g = came-then Zero (negotiatedAll (fileRead file .adapter)) (λ e. omega arith) (f .1) in
     let r = came-then Zero (rowsHold (fileRead file .adapter .rows) (fileRead file .adapter .«row_count»)) (λ e. omega arith) (g .1) in
@@ -66,10 +66,6 @@ open-accepted text file medium h =
 
     settles : (n : ℕ) (o : Opened) → Fine (cond (eqb n 0) o (refusedOpening n)) → n ≡ 0
     settles n o h = passes n o h .0
-
-    -- of two numbers in order the first that is not 0
-    first : (n m : ℕ) → cond (eqb n 0) m n ≡ 0 → (n ≡ 0) × (m ≡ 0)
-    first n m h = by-bool (λ (b : Bool). eqb n 0 ≡ b → cond b m n ≡ 0 → (n ≡ 0) × (m ≡ 0)) (λ e p. (eqb-true n 0 e, p)) (λ e p. absurd (eqb-false n 0 e p)) (eqb n 0) refl h
 
 -- 107 accepts the state of an opening that gives 0
 pub open-holds : (text file medium : List ℕ) → openedOf text file medium .call ≡ 0 → stateHolds (openedOf text file medium .state) ≡ true

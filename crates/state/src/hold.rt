@@ -1,9 +1,8 @@
 // The rules of a state, and the size of its medium.
 ghost use mathlib.Core.Path.{_≡_};
-ghost use Prim.Native.Nat.{_≤_};
 ghost use lib.ListN.{length};
 ghost use Rattle.rows.specs.Row.{rowsHold};
-ghost use Rattle.adapter.specs.Adapter.{countsHold, mediumSize};
+ghost use Rattle.adapter.specs.Adapter.{FewPhys, FewRows, countsHold, mediumSize};
 ghost use Rattle.tables.specs.Tables.{tablesSize, tablesOf};
 ghost use Rattle.state.specs.State.{stateSize, stateOf, tablesHold, adapterHolds, stateHolds};
 
@@ -26,7 +25,7 @@ pub fn medium_size(state: &[u8]) -> usize
 // No two rows share.
 pub fn rows_apart(tables: &[u8]) -> bool
     requires { ⌜ length (now tables) ≡ tablesSize ⌝ }
-    requires { ⌜ tablesOf (now tables) .«row_count» ≤ 64 ⌝ }
+    requires { ⌜ FewRows (tablesOf (now tables)) ⌝ }
     ensures { λ r. ⌜ r ≡ rowsHold (tablesOf (now (tables .entry)) .rows) (tablesOf (now (tables .entry)) .«row_count») ⌝ }
 {
     rows::rows_hold(
@@ -37,7 +36,7 @@ pub fn rows_apart(tables: &[u8]) -> bool
 
 fn tables_hold(tables: &[u8]) -> bool
     requires { ⌜ length (now tables) ≡ tablesSize ⌝ }
-    requires { ⌜ (tablesOf (now tables) .«phy_count» ≤ 32) × (tablesOf (now tables) .«row_count» ≤ 64) ⌝ }
+    requires { ⌜ FewPhys (tablesOf (now tables)) × FewRows (tablesOf (now tables)) ⌝ }
     ensures { λ r. ⌜ r ≡ tablesHold (tablesOf (now (tables .entry))) ⌝ }
 {
     rules::all_fields_hold(tables)

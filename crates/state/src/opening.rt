@@ -5,13 +5,13 @@ use crate::hold::rows_apart;
 use level::Level;
 use level::TextLevel;
 ghost use mathlib.Core.Path.{_≡_};
-ghost use Prim.Native.Nat.{_≤_};
 ghost use lib.ListN.{length};
+ghost use Rattle.adapter.specs.Adapter.{FewPhys, FewRows};
 ghost use Rattle.tables.specs.Tables.{tablesSize, tablesOf};
 ghost use Rattle.level.specs.Text.{textLevel};
 ghost use Rattle.file.specs.File.{fileRead};
 ghost use Rattle.state.specs.State.{stateSize, stateOf};
-ghost use Rattle.state.specs.Open.{opens, refusedOpening, opened, tablesNumber, openNumber, settled, openedFile, openedText, openedOf, OpenCall};
+ghost use Rattle.state.specs.Open.{opens, refusedOpening, opened, tablesNumber, openNumber, settled, openedFile, openedText, OpenCall};
 
 // Leaves the zero state.
 fn refuse_opening(state: &mut [u8], call: u32) -> u32
@@ -44,7 +44,7 @@ fn settle(state: &mut [u8], number: u32, level: Level) -> u32
 // The negotiated rates, the rows and the medium's length.
 fn tables_number(tables: &[u8], size: usize) -> u32
     requires { ⌜ length (now tables) ≡ tablesSize ⌝ }
-    requires { ⌜ (tablesOf (now tables) .«phy_count» ≤ 32) × (tablesOf (now tables) .«row_count» ≤ 64) ⌝ }
+    requires { ⌜ FewPhys (tablesOf (now tables)) × FewRows (tablesOf (now tables)) ⌝ }
     ensures { λ r. ⌜ r ≡ tablesNumber (tablesOf (now (tables .entry))) size ⌝ }
 {
     if link::all_negotiated(tables) {
