@@ -10,29 +10,20 @@
 //   y PHY AT:HEX ..                    the state gets the phy of a block that has these bytes
 //   w ROW AT:HEX ..                    the state gets the row that has these bytes
 //   # ..                               a heading, printed as it stands
-mod damage;
-mod digest;
-mod line;
-
-use damage::damage;
-use digest::digest;
-use digest::state_digest;
+use case_lines::damage;
+use case_lines::digest;
+use case_lines::end;
+use case_lines::field;
+use case_lines::patch;
+use case_lines::state_digest;
+use case_lines::word;
 use libc::STDIN_FILENO;
 use libc::STDOUT_FILENO;
-use line::end;
-use line::field;
-use line::patch;
-use line::word;
 ghost use mathlib.Core.Path.{_≡_};
 ghost use Prim.Native.Nat.{_≤_};
 ghost use lib.ListN.{length};
 ghost use Rattle.state.specs.State.{stateSize};
-ghost use Rattle.request_cases.specs.Lines.{filled, headed, requestOf, blockLine, fileLine};
-
-// Where the phys and the rows of a state start. Before them stand the level, the two counts and the driver info.
-const PHYS: usize = 177;
-
-const ROWS: usize = 3505;
+ghost use Rattle.case_lines.specs.Lines.{filledBy, headerPut, requestBytes, blockLine, fileLine};
 
 fn say(text: &[u8]) {
     io::write_all(STDOUT_FILENO, text);
@@ -64,7 +55,7 @@ fn open(text: &[u8], file: &[u8], medium: &[u8], state: &mut [u8])
 
 // Byte i becomes step × (i + 1) modulo 251, so step 0 makes zeros.
 fn fill(d: &mut [u8], step: u32)
-    ensures { λ _. ⌜ now (d .exit) ≡ filled step (length (now (d .entry))) ⌝ }
+    ensures { λ _. ⌜ now (d .exit) ≡ filledBy step (length (now (d .entry))) ⌝ }
 {
     let by = step % 251;
     let mut v = 0;
@@ -88,7 +79,7 @@ fn open_line(state: &mut [u8], s: &[u8], file: &[u8], medium: &mut [u8])
 
 fn put_header(buffer: &mut [u8], control: u32, n: u32)
     requires { ⌜ 28 ≤ length (now buffer) ⌝ }
-    ensures { λ _. ⌜ now (buffer .exit) ≡ headed (now (buffer .entry)) control n ⌝ }
+    ensures { λ _. ⌜ now (buffer .exit) ≡ headerPut (now (buffer .entry)) control n ⌝ }
 {
     wire::copy_at(buffer, 0, b"\x1c\0\0\0CSMISAS\0");
     wire::write32(buffer, 16, control);
@@ -97,7 +88,7 @@ fn put_header(buffer: &mut [u8], control: u32, n: u32)
 
 fn put_request(buffer: &mut [u8], s: &[u8])
     requires { ⌜ 28 ≤ length (now buffer) ⌝ }
-    ensures { λ _. ⌜ now (buffer .exit) ≡ requestOf (now (s .entry)) (length (now (buffer .entry))) ⌝ }
+    ensures { λ _. ⌜ now (buffer .exit) ≡ requestBytes (now (s .entry)) (length (now (buffer .entry))) ⌝ }
 {
     fill(buffer, field(s, 3));
     put_header(buffer, field(s, 4), field(s, 5));

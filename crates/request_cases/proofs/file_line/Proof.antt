@@ -1,5 +1,5 @@
 -- `request_cases::file_line` meets its contract. Assumes nothing.
-use Rattle.request_cases.specs.Lines.{fileLine}
+use Rattle.case_lines.specs.Lines.{fileLine}
 use Rattle.laws.specs.Choice.{picks}
 use borrow.Author.Needs.{needs}
 use Rattle.request_cases.proofs.file_line.Statement.{statement}

@@ -1,0 +1,18 @@
+// What the lines of a test program's input say: the fields of a line, the bytes that it puts into a slice or a state, and the digests that are printed
+// for them. `request_cases` is the program.
+mod alter;
+mod digests;
+mod line;
+
+pub use alter::damage;
+pub use digests::digest;
+pub use digests::state_digest;
+pub use line::end;
+pub use line::field;
+pub use line::patch;
+pub use line::word;
+
+// Where the phys and the rows of a state start. Before them stand the level, the two counts and the driver info.
+const PHYS: usize = 177;
+
+const ROWS: usize = 3505;
