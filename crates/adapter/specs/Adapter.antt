@@ -11,7 +11,7 @@ use Rattle.phy.specs.Block.{noPhy, zeroPhy}
 use Rattle.fields.specs.Rules.{fieldsHold, phyZero}
 use Rattle.rows.specs.Row.{Row, zeroRow, zeroFrom}
 
--- tables and counters: the phy count p, the row count a, the driver info, 32 phys and 64 rows, zero past p and a
+-- tables and counters: the phy count p, the row count a, the driver info, 32 phys and 64 rows (107 asks that they be zero past p and a)
 pub record Adapter : Type 0 where
   pub «phy_count» : ℕ
   pub «row_count» : ℕ

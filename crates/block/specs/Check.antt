@@ -1,4 +1,4 @@
--- Blocks and their checks (document 01, "Adapter file"), and laws about them. Assumes nothing.
+-- Blocks and their checks (document 01, "Adapter file"). Assumes nothing.
 use mathlib.Core.Bool.{Bool}
 use mathlib.Core.List.{List}
 use Prim.Native.Nat.{ℕ, _+_, _*_, _%_}

@@ -175,11 +175,11 @@ one-run : (text file : List ℕ) (store : Store) (requests : List Request) → O
 one-run text file store requests =
     let p : Point = openedAt text file store in
     record {
-      answered = all-noted step entryOf (λ (e : Entry). e .exchange .sent) (λ _ _. refl) p requests;
+      allAnswered = all-noted step entryOf (λ (e : Entry). e .exchange .sent) (λ _ _. refl) p requests;
       level = kept step entryOf (λ (q : Point). q .state .level ≡ p .state .level) (λ q r e. level-kept q r ∙ e) p requests refl;
       denials = noted step entryOf (λ (e : Entry). e .denied ≡ true → e .exchange .reply ≡ denial (e .exchange .sent))
           (λ q r d. ap (λ (o : Outcome). replyOf o) (denied-step q r d)) p requests;
-      last = last-writer text file store requests;
+      lastWriter = last-writer text file store requests;
     }
 
 -- ---- two runs

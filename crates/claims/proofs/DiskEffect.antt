@@ -16,8 +16,8 @@ use Rattle.phy.specs.declared.PhyIdentifier.{PhyIdentifier}
 use Rattle.phy.specs.declared.PortIdentifier.{PortIdentifier}
 use Rattle.stp.specs.Body.{fis, command, dataLength}
 use Rattle.disk.specs.Disk.{lba, performed, Performed, Lent}
-use Rattle.disk.proofs.WaysLaws.{served-by}
-use Rattle.disk.specs.Laws.{sector, replyStatus, covers}
+use Rattle.disk.proofs.WaysLaws.{performed-by}
+use Rattle.disk.specs.Sector.{sector, replyStatus, covers}
 use Rattle.disk.proofs.Laws.{writes, sectorAfter, disk-length, sector-after}
 use Rattle.adapter.specs.Adapter.{Adapter, mediumSize, phyIn}
 use Rattle.select.specs.declared.Selection.{Selection}
@@ -143,7 +143,7 @@ module _ (ad : Adapter) (store : Store) (body : List ℕ) (h : length (store .me
 
     disk-code : onto .code ≤ 2014
     disk-code =
-        served-by (diskOf (store .medium) to) body lent (λ (s : Performed). s .code ≤ 2014)
+        performed-by (diskOf (store .medium) to) body lent (λ (s : Performed). s .code ≤ 2014)
         (record { refused = omega arith; plain = λ _. omega arith; filled = λ _ _ _. omega arith; written = λ _ _ _. omega arith })
 
 -- ---- the effect

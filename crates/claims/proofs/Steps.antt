@@ -11,7 +11,7 @@ use Rattle.level.specs.declared.Level.{Level}
 use Rattle.adapter.specs.Adapter.{Adapter}
 use Rattle.state.specs.State.{stateWith, stateHolds}
 use Rattle.service.specs.Serve.{Store}
-use Rattle.dispatch.specs.Request.{Request, needAbove, Point, point, Outcome, outcome, stateNumber, callNumber, answered, answeredAt, handled}
+use Rattle.dispatch.specs.Request.{Request, refusedByLevel, Point, point, Outcome, outcome, stateNumber, callNumber, answered, answeredAt, handled}
 use Rattle.dispatch.proofs.Laws.{checks-refused, checks-higher}
 use Rattle.claims.specs.Run.{denied, denial}
 
@@ -21,7 +21,7 @@ pub denied-step : (p : Point) (r : Request) → denied p r ≡ true → handled 
 unfolding denied handled answeredAt answered
 denied-step p r h =
     let a : Bool = eqb (callNumber p r) 0 in
-    let b : Bool = needAbove (p .state .level) r in
+    let b : Bool = refusedByLevel (p .state .level) r in
     rw (both-left a b h, checks-refused (p .state .level) r (both-right a b h)) refl
 
 -- ---- the level stays
@@ -51,7 +51,7 @@ module _ (ad : Adapter) (store : Store) (r : Request) (l m : Level) (h : l .0 �
   high = point (stateWith m ad) store
 
   -- the checks before the level came out well
-  served-same : needAbove l r ≡ false → Same (answeredAt low r) (answeredAt high r)
+  served-same : refusedByLevel l r ≡ false → Same (answeredAt low r) (answeredAt high r)
   unfolding answeredAt
   served-same a = rw (checks-higher l m r h a) (record { call = refl; adapter = refl; store = refl; buffer = refl })
 

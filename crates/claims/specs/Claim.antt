@@ -1,4 +1,4 @@
--- Demand 3, in one piece (document 01, "Two runs and the last writer"). Its proof is `claim` in Demand3.antt. That each request of a run is
+-- Demand 3, in one piece (document 01, "Two runs and the last writer"). Its proof is `claim` in proofs/Demand3.antt. That each request of a run is
 -- answered and carried out as document 01 defines stands in `run` (Run.antt), which is made of `openedOf` and `handled`; the contracts of
 -- `state::open` and `dispatch::request` equate the calls with these two. Assumes nothing.
 use mathlib.Core.Path.{_≡_}
@@ -37,12 +37,12 @@ pub record LastWriterHalf (text file : List ℕ) (store : Store) (end : End) : T
 -- what holds of each run by itself, whatever its level
 pub record OneRun (text file : List ℕ) (store : Store) (requests : List Request) (end : End) : Type 0 where
   -- every request of its list was answered, in order
-  pub answered : requestsIn (end .log) ≡ requests
+  pub allAnswered : requestsIn (end .log) ≡ requests
   -- a request changes no level: it is the opening's at the end of this list, and so of every list that begins it
   pub level : end .point .state .level ≡ openedOf text file (store .medium) .state .level
   -- the reply to a denied request is the request with return code 4, and call number 0
   pub denials : All (λ (e : Entry). e .denied ≡ true → e .exchange .reply ≡ denial (e .exchange .sent)) (end .log)
-  pub last : LastWriterHalf text file store end
+  pub lastWriter : LastWriterHalf text file store end
 
 -- the ends of the lower and the higher run, compared
 pub record Comparison (lower higher : End) : Type 0 where

@@ -11,12 +11,11 @@ use Rattle.codes.specs.Codes.{success, setPhyInfo, stpPassthru}
 use Rattle.phy.specs.Entity.{portOf, programmedMinimum, programmedMaximum}
 use Rattle.layout.specs.Layout.{phyCount}
 use Rattle.file.specs.File.{filePhy}
-use Rattle.stp.specs.Body.{command}
 use Rattle.disk.specs.Disk.{lba}
-use Rattle.disk.specs.Laws.{sector, replyStatus, covers}
+use Rattle.disk.specs.Sector.{sector, replyStatus, covers}
 use Rattle.select.specs.declared.Selection.{Selection}
 use Rattle.select.specs.Select.{selectBy}
-use Rattle.stp.specs.Body.{phyAsked, portAsked}
+use Rattle.stp.specs.Body.{phyAsked, portAsked, command, dataPlace}
 use Rattle.passthrough.specs.Passthrough.{diskOf}
 use Rattle.header.specs.Form.{behindHeader, returnCode}
 use Rattle.service.specs.Serve.{Store}
@@ -85,7 +84,7 @@ sectorWriter selects =
           && eqb (selects (t .body) .code) success
           && eqb (selects (t .body) .phy .0) (s .phy)
           && covers (t .body) (s .number);
-      puts = λ s t. part (t .body) (136 + 512 * (s .number - lba (t .body))) 512;
+      puts = λ s t. part (t .body) (dataPlace + 512 * (s .number - lba (t .body))) 512;
     }
 
 -- "the phy it selects", found from the file and the request

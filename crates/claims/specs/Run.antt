@@ -1,4 +1,4 @@
--- Runs (document 01, "Two runs and the last writer"), by the laws of any step (laws/specs/Runs.antt). The opening only reads the medium.
+-- Runs (document 01, "Two runs and the last writer"), by `ends` and `log` of any step (laws/specs/Runs.antt). The opening only reads the medium.
 -- Assumes nothing.
 use mathlib.Core.Bool.{Bool, _&&_}
 use mathlib.Core.List.{List}
@@ -9,7 +9,7 @@ use Rattle.codes.specs.Codes.{writeAttempted}
 use Rattle.state.specs.Open.{openedOf}
 use Rattle.header.specs.Form.{withCode}
 use Rattle.service.specs.Serve.{Store}
-use Rattle.dispatch.specs.Request.{Request, formOf, needAbove, Point, point, Outcome, callNumber, handled}
+use Rattle.dispatch.specs.Request.{Request, formOf, refusedByLevel, Point, point, Outcome, callNumber, handled}
 
 -- "A reply is the call's number and the whole buffer afterwards"
 pub record Reply : Type 0 where
@@ -32,7 +32,7 @@ pub record Entry : Type 0 where
 
 -- "A request is denied if it passes all before the level and its need is above it"
 unfoldable pub denied : Point → Request → Bool
-denied p r = eqb (callNumber p r) 0 && needAbove (p .state .level) r
+denied p r = eqb (callNumber p r) 0 && refusedByLevel (p .state .level) r
 
 -- ---- a run
 

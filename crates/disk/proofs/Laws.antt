@@ -14,8 +14,8 @@ use Rattle.disk.specs.declared.Answer.{Answer}
 use Rattle.disk.specs.declared.AtaCommand.{AtaCommand}
 use Rattle.stp.specs.Body.{fis, command, dataLength}
 use Rattle.disk.specs.Disk.{lba, count, ataCommand, answerOf, byteTwelve, statusOf, withStatus, Performed, performed, Lent}
-use Rattle.disk.proofs.WaysLaws.{writing, served-by}
-use Rattle.disk.specs.Laws.{covers, replyStatus, sector}
+use Rattle.disk.proofs.WaysLaws.{writing, performed-by}
+use Rattle.disk.specs.Sector.{covers, replyStatus, sector}
 
 -- "command 30h and status 50h in its reply's status FIS", of a request with return code 0
 unfoldable pub writes : ℕ → List ℕ → List ℕ → Bool
@@ -109,7 +109,7 @@ module _ (disk body : List ℕ) (h : Lent disk body (dataLength body)) where
   pub disk-length : length (performed disk body .disk) ≡ 8192
   unfolding ataCommand
   disk-length =
-      served-by disk body h (λ (s : Performed). length (s .disk) ≡ 8192)
+      performed-by disk body h (λ (s : Performed). length (s .disk) ≡ 8192)
       (record {
         refused = h .0;
         plain = λ _. h .0;
@@ -128,7 +128,7 @@ module _ (disk body : List ℕ) (h : Lent disk body (dataLength body)) where
   pub sector-after : (k : ℕ) → sector (performed disk body .disk) k ≡ sectorAfter (performed disk body .code) body (performed disk body .body) k (sector disk k)
   unfolding sectorAfter writes covers ataCommand stored
   sector-after k =
-      served-by disk body h (λ (s : Performed). sector (s .disk) k ≡ sectorAfter (s .code) body (s .body) k (sector disk k))
+      performed-by disk body h (λ (s : Performed). sector (s .disk) k ≡ sectorAfter (s .code) body (s .body) k (sector disk k))
       (record {
         refused = refl;
         plain = λ n. rw (shows false (withStatus body (ataCommand body) (answerOf body)) plain-reply n);

@@ -75,6 +75,6 @@ module _ (disk body : List ℕ) (r : AtaCommand) (a : Answer) (e : a ≡ answerT
 
 module _ (disk body : List ℕ) (h : Lent disk body (dataLength body)) where
   -- what is shown of each way holds of the request
-  pub served-by : (P : Performed → Type 0) → Ways disk body (ataCommand body) (answerOf body) P → P (performed disk body)
+  pub performed-by : (P : Performed → Type 0) → Ways disk body (ataCommand body) (answerOf body) P → P (performed disk body)
   unfolding performed ataCommand
-  served-by P w = acted-by disk body (ataCommand body) (answerOf body) refl h P w
+  performed-by P w = acted-by disk body (ataCommand body) (answerOf body) refl h P w

@@ -59,7 +59,7 @@ answerBy command addressed lba count =
     (cond (eqb command 0xe5) (succeeds 0)
     (fails 0x04))))
 
--- the answer to a request, and to the body that holds it
+-- the answer to a command, and to the body that holds it
 abbrev pub answerTo : AtaCommand → Answer
 answerTo r = answerBy (r .command) (r .addressed) (r .lba) (r .count)
 
@@ -70,7 +70,7 @@ answerOf body = answerTo (ataCommand body)
 unfoldable pub identify : List ℕ
 identify = splice (splice (replicate 512 0) (2 * 49) (bytes 2 0x0200)) (2 * 60) (bytes 2 16)
 
--- the sectors that a request names
+-- the sectors that a command names
 abbrev pub sectors : List ℕ → AtaCommand → List ℕ
 sectors disk r = part disk (512 * r .lba) (512 * r .count)
 

@@ -1,3 +1,3 @@
 pub mod Disk
-pub mod Laws
+pub mod Sector
 pub mod Starred

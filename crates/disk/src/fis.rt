@@ -5,6 +5,7 @@ ghost use mathlib.Core.Path.{_≡_};
 ghost use Prim.Native.Nat.{_+_, _*_, _/_, _%_, _≤_};
 ghost use lib.Dec.{eqb};
 ghost use lib.ListN.{length};
+ghost use Rattle.stp.specs.Body.{dataPlace};
 ghost use Rattle.disk.specs.Disk.{countOf, ataCommand, succeeds, fails, transfer, answerBy};
 
 fn bit_six(device: u8) -> bool
@@ -30,7 +31,7 @@ fn sector_count(byte: u8) -> u32
 
 // What the body asks.
 pub fn ata_command(body: &[u8]) -> AtaCommand
-    requires { ⌜ 136 ≤ length (now body) ⌝ }
+    requires { ⌜ dataPlace ≤ length (now body) ⌝ }
     ensures { λ r. ⌜ r ≡ ataCommand (now (body .entry)) ⌝ }
 {
     AtaCommand {

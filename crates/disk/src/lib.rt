@@ -10,7 +10,7 @@ ghost use mathlib.Core.Path.{_≡_};
 ghost use Prim.Native.Nat.{_+_, _*_, _≤_};
 ghost use lib.ListN.{length};
 ghost use Rattle.laws.specs.Splice.{part, splice};
-ghost use Rattle.stp.specs.Body.{dataLength};
+ghost use Rattle.stp.specs.Body.{dataLength, dataPlace};
 ghost use Rattle.disk.specs.Disk.{answerTo, withStatus, identify, sectors, performs, acted, performed, Lent};
 
 // What a request asks: the command's code, bit 6 of FIS byte 7, the LBA, the count of sectors, and uDataLength.
@@ -82,7 +82,7 @@ fn act(disk: &mut [u8], body: &mut [u8], r: AtaCommand, a: Answer) -> u32
 fn read(disk: &[u8], body: &mut [u8], r: AtaCommand, a: Answer)
     requires { ⌜ Lent (now disk) (now body) (512 * r .count) ⌝ }
     requires { ⌜ r .lba + r .count ≤ 16 ⌝ }
-    ensures { λ _. ⌜ now (body .exit) ≡ splice (withStatus (now (body .entry)) r a) 136 (sectors (now (disk .entry)) r) ⌝ }
+    ensures { λ _. ⌜ now (body .exit) ≡ splice (withStatus (now (body .entry)) r a) dataPlace (sectors (now (disk .entry)) r) ⌝ }
 {
     let at = 512 * r.lba as usize;
     let bytes = 512 * r.count as usize;
@@ -92,8 +92,8 @@ fn read(disk: &[u8], body: &mut [u8], r: AtaCommand, a: Answer)
 
 // ECh: what the disk says of itself goes to the start of bDataBuffer.
 fn describe(body: &mut [u8], r: AtaCommand, a: Answer)
-    requires { ⌜ 136 + 512 ≤ length (now body) ⌝ }
-    ensures { λ _. ⌜ now (body .exit) ≡ splice (withStatus (now (body .entry)) r a) 136 identify ⌝ }
+    requires { ⌜ dataPlace + 512 ≤ length (now body) ⌝ }
+    ensures { λ _. ⌜ now (body .exit) ≡ splice (withStatus (now (body .entry)) r a) dataPlace identify ⌝ }
 {
     put_status(body, r, a);
     put_identify(body);
@@ -103,7 +103,7 @@ fn describe(body: &mut [u8], r: AtaCommand, a: Answer)
 fn write(disk: &mut [u8], body: &mut [u8], r: AtaCommand, a: Answer)
     requires { ⌜ Lent (now disk) (now body) (512 * r .count) ⌝ }
     requires { ⌜ r .lba + r .count ≤ 16 ⌝ }
-    ensures { λ _. ⌜ now (disk .exit) ≡ splice (now (disk .entry)) (512 * r .lba) (part (now (body .entry)) 136 (512 * r .count)) ⌝ }
+    ensures { λ _. ⌜ now (disk .exit) ≡ splice (now (disk .entry)) (512 * r .lba) (part (now (body .entry)) dataPlace (512 * r .count)) ⌝ }
     ensures { λ _. ⌜ now (body .exit) ≡ withStatus (now (body .entry)) r a ⌝ }
 {
     let at = 512 * r.lba as usize;

@@ -5,6 +5,7 @@ ghost use mathlib.Core.Path.{_≡_};
 ghost use Prim.Native.Nat.{_+_, _≤_};
 ghost use lib.ListN.{length};
 ghost use Rattle.laws.specs.Splice.{splice};
+ghost use Rattle.stp.specs.Body.{dataPlace};
 ghost use Rattle.disk.specs.Disk.{byteTwelve, statusOf, withStatus, identify};
 
 // Byte 12 of the status FIS: E5h reports the disk active there, and another command its count.
@@ -19,7 +20,7 @@ fn byte_twelve(command: u8, byte: u8) -> u8
 
 // The status FIS is at 4, uDataBytes at 88; every other byte is 0.
 fn status(body: &[u8], twelve: u8, a: Answer) -> [u8; 92]
-    requires { ⌜ 136 ≤ length (now body) ⌝ }
+    requires { ⌜ dataPlace ≤ length (now body) ⌝ }
     ensures { λ r. ⌜ r ≡ statusOf (now (body .entry)) twelve a ⌝ }
 {
     let mut s = [0u8; 92];
@@ -33,7 +34,7 @@ fn status(body: &[u8], twelve: u8, a: Answer) -> [u8; 92]
 }
 
 pub fn put_status(body: &mut [u8], r: AtaCommand, a: Answer)
-    requires { ⌜ 136 ≤ length (now body) ⌝ }
+    requires { ⌜ dataPlace ≤ length (now body) ⌝ }
     ensures { λ _. ⌜ now (body .exit) ≡ withStatus (now (body .entry)) r a ⌝ }
 {
     let s = status(body, byte_twelve(r.command, body[stp::COUNT]), a);
@@ -42,8 +43,8 @@ pub fn put_status(body: &mut [u8], r: AtaCommand, a: Answer)
 
 // Words 49 (LBA supported) and 60 (sectors) of 256.
 pub fn put_identify(body: &mut [u8])
-    requires { ⌜ 136 + 512 ≤ length (now body) ⌝ }
-    ensures { λ _. ⌜ now (body .exit) ≡ splice (now (body .entry)) 136 identify ⌝ }
+    requires { ⌜ dataPlace + 512 ≤ length (now body) ⌝ }
+    ensures { λ _. ⌜ now (body .exit) ≡ splice (now (body .entry)) dataPlace identify ⌝ }
 {
     let mut words = [0u8; 512];
     wire::write16(&mut words, 98, 0x0200);

@@ -22,7 +22,7 @@ use Rattle.state.specs.State.{State, stateWith, stateSize, stateOf, stateHolds}
 use Rattle.state.proofs.Laws.{lent-tables, state-back, state-phys, state-rows}
 use Rattle.adapter.specs.Adapter.{Adapter, mediumSize}
 use Rattle.service.specs.Serve.{Store, serves, served}
-use Rattle.dispatch.specs.Request.{Request, requestOf, formOf, controlOf, bodyOf, checksCode, needAbove, Point, point, outcome, stateNumber, bufferNumber, untouched, pending, inBuffer, refusedRequest, answered, replied, answeredAt, handled, RequestCall}
+use Rattle.dispatch.specs.Request.{Request, requestOf, formOf, controlOf, bodyOf, checksCode, refusedByLevel, Point, point, outcome, stateNumber, bufferNumber, untouched, pending, inBuffer, refusedRequest, answered, replied, answeredAt, handled, RequestCall}
 
 -- ---- the body, lent as the rest of the buffer
 
@@ -53,11 +53,11 @@ module _ (level : Level) (r : Request) where
   checks-room h = access-room level (r .buffer) (accessCode level (r .buffer)) refl h
 
   -- one that the level refuses is answered 4
-  pub checks-refused : needAbove level r ≡ true → checksCode level r ≡ writeAttempted
+  pub checks-refused : refusedByLevel level r ≡ true → checksCode level r ≡ writeAttempted
   checks-refused = access-refused level (r .buffer)
 
 -- one that it does not refuse is answered the same at a higher level
-pub checks-higher : (l m : Level) (r : Request) → l .0 ≤ m .0 → needAbove l r ≡ false → checksCode l r ≡ checksCode m r
+pub checks-higher : (l m : Level) (r : Request) → l .0 ≤ m .0 → refusedByLevel l r ≡ false → checksCode l r ≡ checksCode m r
 checks-higher l m r = access-higher l m (r .buffer)
 
 -- ---- a call whose number is 0

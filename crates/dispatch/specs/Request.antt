@@ -43,8 +43,8 @@ abbrev pub checksCode : Level → Request → ℕ
 checksCode level r = accessCode level (r .buffer)
 
 -- it passes its header's checks and "its need is above" the level
-abbrev pub needAbove : Level → Request → Bool
-needAbove level r = levelRefuses level (r .buffer)
+abbrev pub refusedByLevel : Level → Request → Bool
+refusedByLevel level r = levelRefuses level (r .buffer)
 
 -- ---- where it is sent to, and what it leaves
 

@@ -1,4 +1,4 @@
--- The bytes of the tables that a file gives, and that they stand for `adapterOf`. Assumes nothing.
+-- The bytes of the tables that a file gives (`ParseLaws.antt`: they stand for `adapterOf`). Assumes nothing.
 use mathlib.Core.List.{List, [], _∷_}
 use Prim.Native.Nat.{ℕ}
 use Rattle.laws.specs.Flat.{pieces}

@@ -1,4 +1,4 @@
--- The checks of a file one after the other, as the code makes them, and that they give what the list of them gives. Assumes nothing.
+-- The checks of a file one after the other, as the code makes them (`StepsLaws.antt`: they give what the list gives). Assumes nothing.
 use mathlib.Core.Bool.{Bool, cond, _&&_}
 use mathlib.Core.List.{List}
 use Prim.Native.Nat.{ℕ}

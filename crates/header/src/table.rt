@@ -36,7 +36,7 @@ pub fn structure_size(control: u32) -> u32
         return 20;
     }
     if control == codes::STP_PASSTHRU {
-        return 136;
+        return stp::SIZE;
     }
     if control == codes::GET_SATA_SIGNATURE {
         return 24;

@@ -3,7 +3,7 @@ use mathlib.Core.List.{List}
 use Prim.Native.Nat.{ℕ, _+_, _-_, _*_, _/_, _%_, min}
 use lib.ListN.{getD}
 
--- "Block 0: byte 0 the phy count p; byte 1 the row count a"
+-- "Block 0: byte 0 the phy count p ..; byte 1 the row count a .."
 abbrev pub phyCount : List ℕ → ℕ
 phyCount file = getD file 0 0
 

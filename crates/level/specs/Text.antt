@@ -26,7 +26,7 @@ limited = record { 0 = 2 }
 abbrev pub full : Level
 full = record { 0 = 3 }
 
--- "The text is cut into entries, each ending with its semicolon; bytes after the last semicolon are one unclosed entry":
+-- "The text .. is cut into entries, each ending with its semicolon; bytes after the last semicolon are one unclosed entry":
 -- a byte that ends no entry stands in front of the first entry of the rest
 abbrev pub inFront : ℕ → List (List ℕ) → List (List ℕ)
 inFront b [] = (b ∷ []) ∷ []
@@ -61,13 +61,13 @@ exact entry =
 unfoldable pub entrySetting : List ℕ → Setting
 entrySetting entry = cond (begins entry) (exact entry) Absent
 
--- "With no such entry", "with one that is exactly", "anything else, two such entries included"
+-- "With no such entry", "With one that is exactly ..", "Anything else, two such entries included, .."
 abbrev pub settingOf : List (List ℕ) → Setting
 settingOf [] = Absent
 settingOf (e ∷ []) = exact e
 settingOf (e ∷ f ∷ es) = Bad
 
--- the number and the level for each: "With no such entry the level is Limited", "anything else is 101"
+-- the number and the level for each: "With no such entry the level is Limited", "Anything else, .. is 101"
 abbrev pub meant : Setting → TextLevel
 meant Absent = record { call = 0; level = limited }
 meant (Given l) = record { call = 0; level = l }

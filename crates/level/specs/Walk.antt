@@ -1,5 +1,4 @@
--- The walk through the entries of a text, one after the other, and that it gives what document 01 says of all of them.
--- Assumes nothing.
+-- The walk through the entries of a text, one after the other, as the code makes it (`WalkLaws.antt`: it gives what document 01 says). Assumes nothing.
 use mathlib.Core.Bool.{cond}
 use mathlib.Core.List.{List, [], _∷_}
 use Prim.Native.Nat.{ℕ, suc}

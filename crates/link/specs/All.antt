@@ -1,5 +1,4 @@
--- "Negotiated rate is 1 (disabled) or what the link rule gives", of every phy of an adapter, and what storing one phy keeps of
--- it. Assumes nothing.
+-- "Negotiated rate is 1 (disabled) or what the link rule gives", of every phy of an adapter. Assumes nothing.
 use mathlib.Core.Bool.{Bool}
 use Prim.Native.Nat.{ℕ}
 use Rattle.laws.specs.All.{allTo}

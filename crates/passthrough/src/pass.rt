@@ -7,7 +7,7 @@ use select::select_phy;
 ghost use mathlib.Core.Path.{_≡_};
 ghost use Prim.Native.Nat.{_+_, _*_, _<_, _≤_};
 ghost use lib.ListN.{length};
-ghost use Rattle.stp.specs.Body.{dataLength};
+ghost use Rattle.stp.specs.Body.{dataLength, dataPlace};
 ghost use Rattle.adapter.specs.Adapter.{FewPhys, mediumSize, phyIn};
 ghost use Rattle.tables.specs.Tables.{tablesSize, tablesOf};
 ghost use Rattle.select.specs.Select.{selectIn};
@@ -38,7 +38,7 @@ fn reaches(phy: Phy, rate: u8, destination: &[u8]) -> bool
 fn is_connected(tables: &[u8], n: PhyIdentifier, body: &[u8]) -> bool
     requires { ⌜ n .0 < 32 ⌝ }
     requires { ⌜ length (now tables) ≡ tablesSize ⌝ }
-    requires { ⌜ 136 ≤ length (now body) ⌝ }
+    requires { ⌜ dataPlace ≤ length (now body) ⌝ }
     ensures { λ r. ⌜ r ≡ connected (phyIn (tablesOf (now (tables .entry))) (n .0)) (connectionRate (now (body .entry)))
         (destinationOf (now (body .entry))) ⌝ }
 {
@@ -52,7 +52,7 @@ fn is_connected(tables: &[u8], n: PhyIdentifier, body: &[u8]) -> bool
 // The phy's disk is lent to the command as a part of the medium.
 fn on_disk(medium: &mut [u8], n: PhyIdentifier, body: &mut [u8]) -> u32
     requires { ⌜ 8192 * n .0 + 8192 ≤ length (now medium) ⌝ }
-    requires { ⌜ 136 + dataLength (now body) ≤ length (now body) ⌝ }
+    requires { ⌜ dataPlace + dataLength (now body) ≤ length (now body) ⌝ }
     ensures { λ code. ⌜ passes code (now (medium .exit)) (now (body .exit)) ≡ onDisk (now (medium .entry)) (n .0) (now (body .entry)) ⌝ }
 {
     let from = 8192 * n.0 as usize;
@@ -63,7 +63,7 @@ fn connect(tables: &[u8], medium: &mut [u8], body: &mut [u8], n: PhyIdentifier) 
     requires { ⌜ n .0 < 32 ⌝ }
     requires { ⌜ length (now tables) ≡ tablesSize ⌝ }
     requires { ⌜ 8192 * n .0 + 8192 ≤ length (now medium) ⌝ }
-    requires { ⌜ 136 + dataLength (now body) ≤ length (now body) ⌝ }
+    requires { ⌜ dataPlace + dataLength (now body) ≤ length (now body) ⌝ }
     ensures { λ code. ⌜ passes code (now (medium .exit)) (now (body .exit))
         ≡ sentTo (tablesOf (now (tables .entry))) (now (medium .entry)) (now (body .entry)) (n .0) ⌝ }
 {
@@ -77,7 +77,7 @@ fn pass_to(tables: &[u8], medium: &mut [u8], body: &mut [u8], s: Selection) -> u
     requires { ⌜ length (now tables) ≡ tablesSize ⌝ }
     requires { ⌜ FewPhys (tablesOf (now tables)) ⌝ }
     requires { ⌜ length (now medium) ≡ mediumSize (tablesOf (now tables)) ⌝ }
-    requires { ⌜ 136 + dataLength (now body) ≤ length (now body) ⌝ }
+    requires { ⌜ dataPlace + dataLength (now body) ≤ length (now body) ⌝ }
     requires { ⌜ s ≡ selectIn (tablesOf (now tables)) (phyAsked (now body)) (portAsked (now body)) ⌝ }
     ensures { λ code. ⌜ passes code (now (medium .exit)) (now (body .exit))
         ≡ passedTo (tablesOf (now (tables .entry))) (now (medium .entry)) (now (body .entry)) s ⌝ }
@@ -92,7 +92,7 @@ fn pass_selected(tables: &[u8], medium: &mut [u8], body: &mut [u8]) -> u32
     requires { ⌜ length (now tables) ≡ tablesSize ⌝ }
     requires { ⌜ FewPhys (tablesOf (now tables)) ⌝ }
     requires { ⌜ length (now medium) ≡ mediumSize (tablesOf (now tables)) ⌝ }
-    requires { ⌜ 136 + dataLength (now body) ≤ length (now body) ⌝ }
+    requires { ⌜ dataPlace + dataLength (now body) ≤ length (now body) ⌝ }
     ensures { λ code. ⌜ passes code (now (medium .exit)) (now (body .exit))
         ≡ passedTo (tablesOf (now (tables .entry))) (now (medium .entry)) (now (body .entry))
         (selectIn (tablesOf (now (tables .entry))) (phyAsked (now (body .entry))) (portAsked (now (body .entry)))) ⌝ }
@@ -110,7 +110,7 @@ pub fn pass_through(tables: &[u8], medium: &mut [u8], body: &mut [u8]) -> u32
     requires { ⌜ length (now tables) ≡ tablesSize ⌝ }
     requires { ⌜ FewPhys (tablesOf (now tables)) ⌝ }
     requires { ⌜ length (now medium) ≡ mediumSize (tablesOf (now tables)) ⌝ }
-    requires { ⌜ 136 + dataLength (now body) ≤ length (now body) ⌝ }
+    requires { ⌜ dataPlace + dataLength (now body) ≤ length (now body) ⌝ }
     ensures { λ code. ⌜ passes code (now (medium .exit)) (now (body .exit))
         ≡ passthrough (tablesOf (now (tables .entry))) (now (medium .entry)) (now (body .entry)) ⌝ }
 {

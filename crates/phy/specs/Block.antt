@@ -11,7 +11,7 @@ unfoldable pub countersAt : List ℕ → ℕ → List ℕ
 countersAt block at =
     number (part block at 4) ∷ number (part block (at + 4) 4) ∷ number (part block (at + 8) 4) ∷ number (part block (at + 12) 4) ∷ []
 
--- "bytes 0–63 a PHY_ENTITY (6.7.4.2); 64–79 the four counters ..; 80–99 its signature FIS; 100 signature held; 101 fixed;
+-- "bytes 0–63 a PHY_ENTITY (6.7.4.2); 64–79 the four counters ..; 80–99 its signature FIS; 100 signature held ..; 101 fixed ..;
 -- 102 and 103 the device's lowest and highest rate"
 unfoldable pub phyOf : List ℕ → Phy
 phyOf block =

@@ -1,4 +1,4 @@
--- Address rows (document 01, "Adapter file"), and what follows where they are zero. Assumes nothing.
+-- Address rows (document 01, "Adapter file"): their rules and the two conversions. Assumes nothing.
 use mathlib.Core.Bool.{Bool, not, _&&_, _||_}
 use mathlib.Core.List.{List, []}
 use Prim.Native.Nat.{ℕ, _+_, _-_, _*_}

@@ -1,4 +1,4 @@
--- "zero past p and a" (document 01) of lent tables is a test of two runs of their bytes. Assumes nothing.
+-- The phys' half of "zero past p and a", by name. Assumes nothing.
 use mathlib.Core.Bool.{Bool}
 use mathlib.Core.List.{List}
 use Prim.Native.Nat.{ℕ, _+_, _-_}

@@ -11,7 +11,7 @@ use Rattle.phy.specs.declared.PortIdentifier.{PortIdentifier}
 use Rattle.adapter.specs.Adapter.{Adapter}
 use Rattle.select.specs.declared.Selection.{Selection}
 use Rattle.select.specs.Select.{phyGiven, portGiven, selection, selectBy, selectIn}
-use Rattle.select.specs.Laws.{selectionPast}
+use Rattle.select.specs.Past.{selectionPast}
 
 -- a phy identifier by its number
 identifier : ℕ → PhyIdentifier

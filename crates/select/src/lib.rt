@@ -8,7 +8,7 @@ ghost use lib.Dec.{eqb, leb};
 ghost use lib.ListN.{length};
 ghost use Rattle.adapter.specs.Adapter.{FewPhys};
 ghost use Rattle.tables.specs.Tables.{tablesSize, tablesOf};
-ghost use Rattle.select.specs.Laws.{selectionPast};
+ghost use Rattle.select.specs.Past.{selectionPast};
 ghost use Rattle.select.specs.Select.{phyGiven, portGiven, lowestOf, selection, notSelected, selected, selectBy, portIn, selectIn};
 
 // The phy that was selected, where code is 0.

@@ -32,3 +32,6 @@ pub const DATA_LENGTH: usize = 40;
 pub const STATUS: usize = 44;
 
 pub const DATA: usize = 136;
+
+// The structure without bDataBuffer.
+pub const SIZE: u32 = 136;

@@ -13,7 +13,7 @@ counterBytes c = bytes 4 (getD c 0 0) ++ (bytes 4 (getD c 1 0) ++ (bytes 4 (getD
 abbrev pub lastBytes : Phy → List ℕ
 lastBytes phy = phy .held ∷ phy .fixed ∷ phy .lowest ∷ phy .highest ∷ []
 
--- the same, field by field, over a list that has as many
+-- the bytes of a phy written field by field over 104 bytes, over a list that has as many
 unfoldable pub written : List ℕ → Phy → List ℕ
 written d phy =
     splice (splice (splice (splice d 0 (phy .entity)) 64 (counterBytes (phy .counters))) 80 (phy .signature)) 100 (lastBytes phy)

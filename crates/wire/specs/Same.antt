@@ -1,4 +1,4 @@
--- Bytes compared, and the loops that compare them. Assumes nothing.
+-- Bytes compared. Assumes nothing.
 use mathlib.Core.Bool.{Bool, true, false, _&&_}
 use mathlib.Core.List.{List, [], _∷_}
 use Prim.Native.Nat.{ℕ}

@@ -1,7 +1,7 @@
 -- `select::select_past` meets its contract. Assumes nothing.
 use borrow.Author.Needs.{needs}
 use Rattle.laws.specs.Choice.{picks}
-use Rattle.select.specs.Laws.{selectionPast}
+use Rattle.select.specs.Past.{selectionPast}
 use Rattle.select.proofs.select_past.Statement.{statement}
 use Rattle.select.proofs.select_past.Tie as tie
 

@@ -1,4 +1,4 @@
--- What a selection tells, and what the proofs of this crate cite. Assumes nothing.
+-- The selection where the phy is not below p. Assumes nothing.
 use mathlib.Core.Bool.{cond, _&&_, not}
 use Prim.Native.Nat.{ℕ}
 use lib.Dec.{leb}
