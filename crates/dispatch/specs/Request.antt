@@ -35,8 +35,8 @@ abbrev pub bodyOf : Request → List ℕ
 bodyOf r = behindHeader (formOf r) (r .buffer)
 
 -- its structure and its data are there
-abbrev pub Whole : Request → Type 0
-Whole r = structureSize (controlOf r) + dataSize (controlOf r) (bodyOf r) ≤ length (bodyOf r)
+abbrev pub HasStructure : Request → Type 0
+HasStructure r = structureSize (controlOf r) + dataSize (controlOf r) (bodyOf r) ≤ length (bodyOf r)
 
 -- the return code of its header's checks and of the level's, or 0
 abbrev pub checksCode : Level → Request → ℕ

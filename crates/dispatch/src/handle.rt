@@ -9,7 +9,7 @@ ghost use Rattle.tables.specs.Tables.{tablesSize, tablesOf};
 ghost use Rattle.header.specs.Form.{srb, returnCode, withCode};
 ghost use Rattle.service.specs.Serve.{storeOf};
 ghost use Rattle.state.specs.State.{stateWith, stateSize, stateOf, stateHolds};
-ghost use Rattle.dispatch.specs.Request.{requestOf, Whole, checksCode, point, outcome, stateNumber, bufferNumber};
+ghost use Rattle.dispatch.specs.Request.{requestOf, HasStructure, checksCode, point, outcome, stateNumber, bufferNumber};
 ghost use Rattle.dispatch.specs.Request.{pending, servedRequest, answered, answeredAt, handled, RequestCall};
 
 // The body behind the header is lent to the code's own checks and effect.
@@ -18,7 +18,7 @@ fn serve_body(tables: &mut [u8], medium: &mut [u8], buffer: &mut [u8]) -> u32
     requires { ⌜ FewPhys (tablesOf (now tables)) × FewRows (tablesOf (now tables)) ⌝ }
     requires { ⌜ length (now medium) ≡ mediumSize (tablesOf (now tables)) ⌝ }
     requires { ⌜ srb .size ≤ length (now buffer) ⌝ }
-    requires { ⌜ Whole (requestOf (now buffer)) ⌝ }
+    requires { ⌜ HasStructure (requestOf (now buffer)) ⌝ }
     ensures { λ code. ⌜ pending code (tablesOf (now (tables .exit))) (storeOf (now (medium .exit))) (now (buffer .exit))
         ≡ servedRequest (tablesOf (now (tables .entry))) (storeOf (now (medium .entry))) (requestOf (now (buffer .entry))) ⌝ }
 {

@@ -137,19 +137,19 @@ module _ (p : Point) (session lines : List ℕ) where
 -- ---- a run that goes on
 
 -- a run's bytes behind those of the requests before it
-abbrev pub behind : ℕ → List ℕ → List ℕ → Ran → Ran
-behind count session lines r = ran (count + r .count) (r .store) (session ++ r .session) (lines ++ r .lines)
+abbrev pub behindDone : ℕ → List ℕ → List ℕ → Ran → Ran
+behindDone count session lines r = ran (count + r .count) (r .store) (session ++ r .session) (lines ++ r .lines)
 
 -- one request more before it
 behind-behind : (n : ℕ) (session session′ lines lines′ : List ℕ) (r : Ran)
-    → behind n session lines (behind 1 session′ lines′ r) ≡ behind (n + 1) (session ++ session′) (lines ++ lines′) r
+    → behindDone n session lines (behindDone 1 session′ lines′ r) ≡ behindDone (n + 1) (session ++ session′) (lines ++ lines′) r
 behind-behind n session session′ lines lines′ r =
     rw (append-assoc session session′ (r .session), append-assoc lines lines′ (r .lines), add-assoc) refl
 
 -- a run with one entry more before it
 shown-more : (e : Entry) (end : End) (session lines : List ℕ)
     → shown (record { point = end .point; log = e ∷ end .log }) session lines
-    ≡ behind 1 (take 4 session ++ e .exchange .reply .buffer) (lineOf (e .exchange .reply)) (shown end (behindFirst session) (drop 8 lines))
+    ≡ behindDone 1 (take 4 session ++ e .exchange .reply .buffer) (lineOf (e .exchange .reply)) (shown end (behindFirst session) (drop 8 lines))
 unfolding shown withReplies linesOf
 shown-more e end session lines =
     let n : ℕ = length (end .log) in
@@ -161,7 +161,7 @@ shown-more e end session lines =
 ran-more : (room : ℕ) (p : Point) (session lines : List ℕ) → wholeFirst session ≡ true
     → let o = handled p (requestOf (firstOf session)) in
     ranFrom (suc room) p session lines
-    ≡ behind 1 (take 4 session ++ o .buffer) (lineOf (replyOf o)) (ranFrom room (o .point) (behindFirst session) (drop 8 lines))
+    ≡ behindDone 1 (take 4 session ++ o .buffer) (lineOf (replyOf o)) (ranFrom room (o .point) (behindFirst session) (drop 8 lines))
 unfolding ranFrom requestsOf ends log
 ran-more room p session lines h =
     let r : Request = requestOf (firstOf session) in
@@ -220,11 +220,11 @@ number-next t t′ medium medium′ request request′ line number p e n =
 
 -- nothing is done at the start
 pub run-starts : (room : ℕ) (p : Point) (session lines : List ℕ)
-    → ranFrom room p session lines ≡ behind 0 [] [] (ranFrom (room - 0) p session lines)
+    → ranFrom room p session lines ≡ behindDone 0 [] [] (ranFrom (room - 0) p session lines)
 run-starts room p session lines = rw (sub-zero, zero-add) refl
 
 module _ (r : Ran) (s : State) (store : Store) (session lines : List ℕ) (at count room : ℕ)
-    (g : r ≡ behind count (take at session) (take (8 * count) lines) (ranFrom (room - count) (point s store) (drop at session) (drop (8 * count) lines)))
+    (g : r ≡ behindDone count (take at session) (take (8 * count) lines) (ranFrom (room - count) (point s store) (drop at session) (drop (8 * count) lines)))
   where
     abbrev here : Point
     here = point s store
@@ -233,7 +233,7 @@ module _ (r : Ran) (s : State) (store : Store) (session lines : List ℕ) (at co
         → ran count store session lines ≡ r
     ended e =
         sym (g
-        ∙ ap (behind count (take at session) (take (8 * count) lines)) e
+        ∙ ap (behindDone count (take at session) (take (8 * count) lines)) e
         ∙ rw (take-append-drop at session, take-append-drop (8 * count) lines, add-zero) refl)
 
     -- no room is left
@@ -260,7 +260,7 @@ module _ (r : Ran) (s : State) (store : Store) (session lines : List ℕ) (at co
         abbrev lines′ : List ℕ
         lines′ = take (8 * count) lines ++ (line ++ drop (8 * count + 8 - 8 * count) (drop (8 * count) lines))
 
-        pub run-goes-on : r ≡ behind (count + 1) (take end session′) (take (8 * (count + 1)) lines′) (ranFrom (room - (count + 1)) q (drop end session′) (drop (8 * (count + 1)) lines′))
+        pub run-goes-on : r ≡ behindDone (count + 1) (take end session′) (take (8 * (count + 1)) lines′) (ranFrom (room - (count + 1)) q (drop end session′) (drop (8 * (count + 1)) lines′))
         run-goes-on =
             let o : Outcome = handled here (requestOf (firstOf (drop at session))) in
             let x : end ≡ at + (4 + sizeOf (drop at session)) = whole-at session at end e h .1 in
@@ -283,10 +283,10 @@ module _ (r : Ran) (s : State) (store : Store) (session lines : List ℕ) (at co
               w,
             )
             (g
-            ∙ ap (behind count (take at session) (take (8 * count) lines)) (rw m (ran-more (room - (count + 1)) here (drop at session) (drop (8 * count) lines) (whole-at session at end e h .0)))
+            ∙ ap (behindDone count (take at session) (take (8 * count) lines)) (rw m (ran-more (room - (count + 1)) here (drop at session) (drop (8 * count) lines) (whole-at session at end e h .0)))
             ∙ behind-behind count (take at session) (take 4 (drop at session) ++ o .buffer) (take (8 * count) lines) (lineOf (replyOf o))
             (ranFrom (room - (count + 1)) (o .point) (behindFirst (drop at session)) (drop 8 (drop (8 * count) lines)))
-            ∙ sym (ap (λ (x : Recorded). behind (count + 1) (take at session ++ x .bytes) (take (8 * count) lines ++ x .line)
+            ∙ sym (ap (λ (x : Recorded). behindDone (count + 1) (take at session ++ x .bytes) (take (8 * count) lines ++ x .line)
             (ranFrom (room - (count + 1)) (x .point) (behindFirst (drop at session)) (drop 8 (drop (8 * count) lines)))) d))
 
 -- ---- the whole run

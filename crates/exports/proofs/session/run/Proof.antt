@@ -6,7 +6,7 @@ use Rattle.state.specs.State.{stateSize, stateOf}
 use Rattle.service.specs.Serve.{storeOf}
 use Rattle.dispatch.specs.Request.{point, stateNumber}
 use Rattle.exports.specs.Session.{ranFrom}
-use Rattle.exports.proofs.Laws.{behind, line-lent, request-there, number-next, run-starts, run-ends, run-full, run-goes-on}
+use Rattle.exports.proofs.Laws.{behindDone, line-lent, request-there, number-next, run-starts, run-ends, run-full, run-goes-on}
 use borrow.Author.Needs.{needs}
 use Rattle.exports.proofs.session.run.Statement.{statement}
 use Rattle.exports.proofs.session.run.Tie as tie
@@ -20,7 +20,7 @@ Inv-loop state₀ medium₀ session₀ lines₀ number at₀ count₀ room state
     × (length session ≡ length session₀)
     × (length lines ≡ length lines₀)
     × (ranFrom room (point (stateOf state₀) (storeOf medium₀)) session₀ lines₀
-    ≡ behind count (take at session) (take (8 * count) lines) (ranFrom (room - count) (point (stateOf state) (storeOf medium)) (drop at session) (drop (8 * count) lines)))
+    ≡ behindDone count (take at session) (take (8 * count) lines) (ranFrom (room - count) (point (stateOf state) (storeOf medium)) (drop at session) (drop (8 * count) lines)))
     × (number ≡ stateNumber (stateOf state) (length medium))
 
 abbrev μ-loop : tie.MeasureT-loop
