@@ -24,8 +24,10 @@ use Rattle.state.specs.Open.{openedOf}
 use Rattle.state.proofs.AcceptedLaws.{Open, open-accepted, open-holds}
 use Rattle.header.specs.Table.{structureSize}
 use Rattle.service.specs.Serve.{Store, reported, changed, reportOf, served}
-use Rattle.dispatch.proofs.Laws.{number-state, checks-room}
-use Rattle.dispatch.specs.Request.{Request, formOf, controlOf, bodyOf, Point, Outcome, bufferNumber, pointNumber, inBuffer, answered, replied, answeredAt, handled}
+use Rattle.header.proofs.Laws.{checks-room}
+use Rattle.dispatch.proofs.Laws.{number-state}
+use Rattle.header.specs.Sent.{Request, formOf, controlOf, bodyOf}
+use Rattle.dispatch.specs.Request.{Point, Outcome, bufferNumber, pointNumber, inBuffer, answered, replied, answeredAt, handled}
 use Rattle.claims.specs.Run.{exchangeOf, step, openedAt, wholeRun}
 use Rattle.claims.specs.LastWriter.{granted, Told, toldBy}
 use Rattle.claims.proofs.Ways.{tables-hold, toldOf, told-served}

@@ -34,7 +34,8 @@ use Rattle.state.specs.State.{stateWith, adapterHolds, stateHolds, zeroState}
 use Rattle.state.specs.Open.{Opened, refusedOpening, opened, openNumber, openedFile, openedText, openedOf}
 use Rattle.state.proofs.AcceptedLaws.{Open, open-accepted}
 use Rattle.service.specs.Serve.{Store}
-use Rattle.dispatch.specs.Request.{Request, Point, point, Outcome, stateNumber, bufferNumber, untouched, handled}
+use Rattle.header.specs.Sent.{Request}
+use Rattle.dispatch.specs.Request.{Point, point, Outcome, stateNumber, bufferNumber, untouched, handled}
 use Rattle.claims.specs.Run.{Exchange, Entry, replyOf, exchangeOf, step, entryOf, run, openedAt, wholeRun, exchanges, requestsIn, notDenied, denial}
 use Rattle.claims.specs.LastWriter.{toldBy, Writer, after, last, Sector, sectorIn, sectorWriter, selectsBy, rateWriter}
 use Rattle.claims.specs.Claim.{LastWriterHalf, OneRun, givenBoth, higherRun, Claim}

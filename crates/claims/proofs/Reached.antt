@@ -19,7 +19,8 @@ use Rattle.state.specs.State.{State, adapterHolds, stateHolds}
 use Rattle.service.proofs.Laws.{passthrough-lent}
 use Rattle.service.specs.Serve.{Store, Served, changed, passed, served}
 use Rattle.dispatch.proofs.Laws.{number-state, number-medium}
-use Rattle.dispatch.specs.Request.{Request, formOf, controlOf, bodyOf, Point, Outcome, stateNumber, bufferNumber, pointNumber, untouched, inBuffer, replied, handled}
+use Rattle.header.specs.Sent.{Request, formOf, controlOf, bodyOf}
+use Rattle.dispatch.specs.Request.{Point, Outcome, stateNumber, bufferNumber, pointNumber, untouched, inBuffer, replied, handled}
 use Rattle.claims.specs.Run.{exchangeOf, step, entryOf}
 use Rattle.claims.specs.LastWriter.{toldBy}
 use Rattle.claims.proofs.Steps.{level-kept}

@@ -11,8 +11,9 @@ use Rattle.level.specs.declared.Level.{Level}
 use Rattle.adapter.specs.Adapter.{Adapter}
 use Rattle.state.specs.State.{stateWith, stateHolds}
 use Rattle.service.specs.Serve.{Store}
-use Rattle.dispatch.specs.Request.{Request, refusedByLevel, Point, point, Outcome, outcome, stateNumber, callNumber, answered, answeredAt, handled}
-use Rattle.dispatch.proofs.Laws.{checks-refused, checks-higher}
+use Rattle.header.specs.Sent.{Request, refusedByLevel}
+use Rattle.dispatch.specs.Request.{Point, point, Outcome, outcome, stateNumber, callNumber, answered, answeredAt, handled}
+use Rattle.header.proofs.Laws.{checks-refused, checks-higher}
 use Rattle.claims.specs.Run.{denied, denial}
 
 -- ---- denied

@@ -16,10 +16,11 @@ use Rattle.link_errors.specs.LinkErrors.{linkErrors}
 use Rattle.passthrough.specs.Passthrough.{passthrough}
 use Rattle.state.specs.State.{State, adapterHolds, stateHolds}
 use Rattle.header.specs.Table.{structureSize, dataSize}
-use Rattle.header.proofs.Laws.{code-shown, headed, body-shown}
+use Rattle.header.proofs.Laws.{code-shown, headed, body-shown, form-room, checks-small, checks-room}
 use Rattle.service.specs.Serve.{Store, Served, reported, changed, passed, reportOf, served}
-use Rattle.dispatch.proofs.Laws.{form-room, checks-small, checks-room, number-state, number-medium, heard-number, heard-buffer}
-use Rattle.dispatch.specs.Request.{Request, formOf, controlOf, bodyOf, checksCode, Point, Outcome, pointNumber, callNumber, untouched, inBuffer, refusedRequest, answered, replied, answeredAt, handled}
+use Rattle.dispatch.proofs.Laws.{number-state, number-medium, heard-number, heard-buffer}
+use Rattle.header.specs.Sent.{Request, formOf, controlOf, bodyOf, checksCode}
+use Rattle.dispatch.specs.Request.{Point, Outcome, pointNumber, callNumber, untouched, inBuffer, refusedRequest, answered, replied, answeredAt, handled}
 use Rattle.claims.specs.Run.{exchangeOf}
 use Rattle.claims.specs.LastWriter.{granted, Told, toldBy}
 

@@ -14,7 +14,7 @@ use Rattle.level.specs.Text.{textLevel}
 use Rattle.state.specs.State.{stateWith, zeroState}
 use Rattle.state.specs.Open.{openedOf}
 use Rattle.service.specs.Serve.{Store}
-use Rattle.dispatch.specs.Request.{Request}
+use Rattle.header.specs.Sent.{Request}
 use Rattle.claims.specs.Run.{Entry, End, wholeRun, exchanges, requestsIn, notDenied, denial}
 use Rattle.claims.specs.LastWriter.{Sector, sectorIn, lastSector, lastMinimum, lastMaximum}
 

@@ -19,7 +19,7 @@ use Rattle.stp.specs.Body.{phyAsked, portAsked, command, dataPlace}
 use Rattle.passthrough.specs.Passthrough.{diskOf}
 use Rattle.header.specs.Form.{behindHeader, returnCode}
 use Rattle.service.specs.Serve.{Store}
-use Rattle.dispatch.specs.Request.{formOf, controlOf, bodyOf}
+use Rattle.header.specs.Sent.{formOf, controlOf, bodyOf}
 use Rattle.claims.specs.Run.{Exchange}
 
 -- ---- what an exchange tells

@@ -10,7 +10,8 @@ use Rattle.laws.specs.Splice.{part}
 use Rattle.codes.specs.Codes.{success, getScsiAddress, getDeviceAddress}
 use Rattle.state.specs.Open.{openedOf}
 use Rattle.service.specs.Serve.{Store}
-use Rattle.dispatch.specs.Request.{Request, formOf, controlOf, bodyOf, checksCode, Point, Outcome, handled}
+use Rattle.header.specs.Sent.{Request, formOf, controlOf, bodyOf, checksCode}
+use Rattle.dispatch.specs.Request.{Point, Outcome, handled}
 use Rattle.claims.specs.Run.{exchangeOf, step, wholeRun}
 use Rattle.claims.specs.LastWriter.{granted, toldBy}
 

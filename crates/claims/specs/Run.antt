@@ -9,7 +9,8 @@ use Rattle.codes.specs.Codes.{writeAttempted}
 use Rattle.state.specs.Open.{openedOf}
 use Rattle.header.specs.Form.{withCode}
 use Rattle.service.specs.Serve.{Store}
-use Rattle.dispatch.specs.Request.{Request, formOf, refusedByLevel, Point, point, Outcome, callNumber, handled}
+use Rattle.header.specs.Sent.{Request, formOf, refusedByLevel}
+use Rattle.dispatch.specs.Request.{Point, point, Outcome, callNumber, handled}
 
 -- "A reply is the call's number and the whole buffer afterwards"
 pub record Reply : Type 0 where

@@ -1,5 +1,5 @@
--- The numbers of CSMI's section 10, each said once, under section 10's names: control codes, link rates, device types, connection status and return codes. Where document
--- 01 prints another number, section 10 decides, as document 01 says. The call's own numbers are document 01's.
+-- The numbers of CSMI's section 10, each said once, under section 10's names: control codes, link rates, device types, connection status, directions and return codes. Where
+-- document 01 prints another number, section 10 decides, as document 01 says. The call's own numbers are document 01's.
 -- Assumes nothing.
 use Prim.Native.Nat.{ℕ}
 
@@ -63,6 +63,14 @@ fanoutExpander = 0x30
 -- connection status (6.12)
 abbrev pub openAccept : ℕ
 openAccept = 0
+
+-- Direction of the Linux header (4.2.3.1): "the two constants of section 10"
+
+abbrev pub dataRead : ℕ
+dataRead = 0
+
+abbrev pub dataWrite : ℕ
+dataWrite = 1
 
 -- return codes ("In the return code", document 01)
 
@@ -131,7 +139,7 @@ noDeviceAddress = 2014
 
 -- "The call's own number"
 
--- buffer under 28 bytes
+-- a buffer under the size of its header
 abbrev pub shortBuffer : ℕ
 shortBuffer = 100
 

@@ -38,6 +38,11 @@ pub const FANOUT_EXPANDER: u8 = 0x30;
 // Connection status.
 pub const OPEN_ACCEPT: u8 = 0;
 
+// Directions of the Linux header.
+pub const DATA_READ: u16 = 0;
+
+pub const DATA_WRITE: u16 = 1;
+
 // Return codes.
 pub const SUCCESS: u32 = 0;
 

@@ -5,13 +5,14 @@ use Prim.Native.Nat.{ℕ}
 use native.Mathlib.Decide.{ℕ-discrete}
 use lib.ListN.{length}
 use Rattle.wire.proofs.NumberLaws.{Bytes}
+use Rattle.header.specs.declared.Kind.{Kind}
 use Rattle.state.specs.State.{stateSize, stateOf}
 use Rattle.state.proofs.SameLaws.{state-same}
 use Rattle.service.specs.Serve.{Store}
 use Rattle.dispatch.specs.Request.{Outcome, point, outcome, RequestCall}
 
-module _ (state : List ℕ) (store : Store) (buffer : List ℕ) (c d : ℕ) (s t : List ℕ) (m n : Store) (b r : List ℕ) (o : RequestCall state store buffer c s m b)
-    (q : RequestCall state store buffer d t n r)
+module _ (kind : Kind) (state : List ℕ) (store : Store) (buffer : List ℕ) (c d : ℕ) (s t : List ℕ) (m n : Store) (b r : List ℕ) (o : RequestCall kind state store buffer c s m b)
+    (q : RequestCall kind state store buffer d t n r)
   where
     pub request-same-state : Bytes s → Bytes t → s ≡ t
     request-same-state h k = at (ℕ-discrete (length state) stateSize)

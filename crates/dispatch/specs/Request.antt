@@ -1,50 +1,19 @@
--- One request (document 01, "Request", "From the input", "From the state"): the call's number, the state, what is lent beside it and the buffer
--- that it leaves, after refusals as after success. Assumes nothing.
+-- One request, under either header (document 01, "Request", "From the input", "From the state"; W-201): the call's number, the state, what is lent
+-- beside it and the buffer that it leaves, after refusals as after success. Assumes nothing.
 use mathlib.Core.Path.{_≡_}
 use mathlib.Core.Bool.{Bool, cond}
 use mathlib.Core.List.{List, _++_}
-use Prim.Native.Nat.{ℕ, _+_, _≤_}
+use Prim.Native.Nat.{ℕ}
 use lib.Dec.{eqb, ltb}
 use lib.ListN.{length, take}
 use Rattle.codes.specs.Codes.{success, shortBuffer, badMediumLength, badState}
 use Rattle.level.specs.declared.Level.{Level}
 use Rattle.state.specs.State.{State, stateWith, stateSize, stateOf, stateHolds}
 use Rattle.adapter.specs.Adapter.{Adapter, mediumSize}
-use Rattle.header.specs.Form.{Form, srb, behindHeader, withCode}
-use Rattle.header.specs.Table.{structureSize, dataSize}
-use Rattle.header.specs.Header.{controlCode, levelRefuses, accessCode}
+use Rattle.header.specs.declared.Kind.{Kind}
+use Rattle.header.specs.Form.{Form, withCode}
+use Rattle.header.specs.Sent.{Request, sent, formOf, controlOf, bodyOf, checksCode}
 use Rattle.service.specs.Serve.{Store, Served, served}
-
--- ---- what is sent
-
--- a request is its buffer: "A buffer starts with the 28-byte SRB_IO_CONTROL"
-pub record Request : Type 0 where
-  pub buffer : List ℕ
-
-abbrev pub requestOf : List ℕ → Request
-requestOf buffer = record { buffer = buffer }
-
--- its header's form, its control code, and the body behind the header
-abbrev pub formOf : Request → Form
-formOf r = srb
-
-abbrev pub controlOf : Request → ℕ
-controlOf r = controlCode (r .buffer)
-
-abbrev pub bodyOf : Request → List ℕ
-bodyOf r = behindHeader (formOf r) (r .buffer)
-
--- its structure and its data are there
-abbrev pub HasStructure : Request → Type 0
-HasStructure r = structureSize (controlOf r) + dataSize (controlOf r) (bodyOf r) ≤ length (bodyOf r)
-
--- the return code of its header's checks and of the level's, or 0
-abbrev pub checksCode : Level → Request → ℕ
-checksCode level r = accessCode level (r .buffer)
-
--- it passes its header's checks and "its need is above" the level
-abbrev pub refusedByLevel : Level → Request → Bool
-refusedByLevel level r = levelRefuses level (r .buffer)
 
 -- ---- where it is sent to, and what it leaves
 
@@ -74,11 +43,11 @@ stateNumber s medium = cond (stateHolds s) (cond (eqb (mediumSize (s .adapter)) 
 abbrev pub pointNumber : Point → ℕ
 pointNumber p = stateNumber (p .state) (length (p .store .medium))
 
--- "buffer of 28 bytes", where the number of the checks before it is 0
+-- "buffer of 28 bytes", or of the 20 of the Linux header, where the number of the checks before it is 0
 unfoldable pub bufferNumber : Form → ℕ → ℕ → ℕ
 bufferNumber f number buffer = cond (eqb number 0) (cond (ltb buffer (f .size)) shortBuffer 0) number
 
--- "state; medium length; buffer of 28 bytes"
+-- "state; medium length; buffer" under the size of its header
 abbrev pub callNumber : Point → Request → ℕ
 callNumber p r = bufferNumber (formOf r) (pointNumber p) (length (r .buffer))
 
@@ -118,7 +87,7 @@ answered ad store r code = cond (eqb code success) (servedRequest ad store r) (r
 abbrev pub replied : Form → Level → Pending → Outcome
 replied f level a = outcome 0 (point (stateWith level (a .adapter)) (a .store)) (withCode f (a .buffer) (a .code))
 
--- a buffer with room for its header: the checks from HeaderLength on, and the return code written
+-- a buffer with room for its header: the checks on the header and from there on, and the return code written
 unfoldable pub answeredAt : Point → Request → Outcome
 answeredAt p r = replied (formOf r) (p .state .level) (answered (p .state .adapter) (p .store) r (checksCode (p .state .level) r))
 
@@ -128,10 +97,11 @@ handled p r = cond (eqb (callNumber p r) 0) (answeredAt p r) (untouched (callNum
 
 -- ---- the call
 
--- on a state that is lent as bytes: its number, and the bytes of the state, what is stored beside it and the buffer afterwards
-pub record RequestCall (state : List ℕ) (store : Store) (buffer : List ℕ) (call : ℕ) (state′ : List ℕ) (store′ : Store) (buffer′ : List ℕ) : Type 0 where
+-- of a request under either header, on a state that is lent as bytes: its number, and the bytes of the state, what is stored beside it and the buffer
+-- afterwards
+pub record RequestCall (kind : Kind) (state : List ℕ) (store : Store) (buffer : List ℕ) (call : ℕ) (state′ : List ℕ) (store′ : Store) (buffer′ : List ℕ) : Type 0 where
   pub size : length state′ ≡ length state
-  pub whole : length state ≡ stateSize → outcome call (point (stateOf state′) store′) buffer′ ≡ handled (point (stateOf state) store) (requestOf buffer)
+  pub whole : length state ≡ stateSize → outcome call (point (stateOf state′) store′) buffer′ ≡ handled (point (stateOf state) store) (sent kind buffer)
   -- another length is 107, before every other check, and nothing is touched
   pub otherCall : (length state ≡ stateSize → ⊥) → call ≡ badState
   pub otherState : (length state ≡ stateSize → ⊥) → state′ ≡ state

@@ -1,12 +1,14 @@
-// The two calls of the simulator (document 01, "A SAS host adapter as a console sees it"): opening an adapter, and handling one
-// request. State, medium and buffer are bytes that the caller lends. Each call is determined by equation from its inputs, after refusals as after
-// success, and neither has a `requires`. The opening only reads the medium. `state_number`, `buffer_number` and `reply` are the parts of
-// `request`, for a run that tests state and medium once; `reply` requires what the first two test.
+// The calls of the simulator (document 01, "A SAS host adapter as a console sees it"; W-201): opening an adapter, and handling one
+// request, under the first header or the Linux one. State, medium and buffer are bytes that the caller lends. Each call is determined by equation from
+// its inputs, after refusals as after success, and none has a `requires`. The opening only reads the medium. `state_number`, `buffer_number` and
+// `reply` are the parts of a request, for a run that tests state and medium once; `reply` requires what the first two test.
 mod handle;
 
 pub use handle::buffer_number;
 pub use handle::reply;
 pub use handle::request;
+pub use handle::request_linux;
 pub use handle::state_number;
+pub use header::Kind;
 pub use state::SIZE;
 pub use state::open;

@@ -6,18 +6,25 @@ use Prim.Native.Nat.{ℕ, _+_, _-_, _<_, _≤_}
 use native.Mathlib.Nat.{le-trans}
 use native.Mathlib.Omega.{arith}
 use lib.Dec.{eqb, leb, ltb}
-use lib.ListN.{length, take, drop, length-append}
+use lib.ListN.{length, take, drop, length-append, length-drop}
 use lib.Seq.{length-take-le, drop-at}
-use borrow.Author.Tests.{lt-leb, le-leb, leb-true, le-ltb, ltb-false, eqb-true}
+use borrow.Author.Tests.{lt-leb, le-leb, leb-true, leb-false, le-ltb, ltb-false, eqb-true}
 use Rattle.laws.specs.Choice.{by-bool, both-left, both-right, came-then, either}
 use Rattle.laws.specs.Splice.{part, part-splice, drop-splice, rest}
-use Rattle.codes.specs.Codes.{stpPassthru, success, writeAttempted}
+use Rattle.codes.specs.Codes.{getDriverInfo, getPhyInfo, setPhyInfo, getLinkErrors, stpPassthru, getSataSignature, getScsiAddress, getDeviceAddress, success, writeAttempted}
 use Rattle.wire.specs.Number.{bytes}
 use Rattle.wire.proofs.NumberLaws.{length-bytes, number-bytes}
 use Rattle.level.specs.declared.Level.{Level}
-use Rattle.header.specs.Form.{Form, srb, behindHeader, returnCode, withCode}
+use Rattle.level.specs.Text.{full}
+use Rattle.level.proofs.BoundLaws.{need-bound}
+use Rattle.stp.specs.Body.{command}
+use Rattle.header.specs.declared.Kind.{Kind}
+use Rattle.header.specs.declared.Kind.the-variants.{Srb, Linux}
+use Rattle.header.specs.Form.{Form, srb, linux, behindHeader, returnCode, withCode}
 use Rattle.header.specs.Table.{known, structureSize, dataSize, need}
-use Rattle.header.specs.Header.{headerLength, controlCode, lengthField, srbBody, signatureHolds, lengthHolds, codeChecked, headerCode, above, levelRefuses, accessCode}
+use Rattle.header.specs.Srb.{headerLength, controlCode, lengthField, srbBody, signatureHolds, lengthHolds, codeChecked, srbCode}
+use Rattle.header.specs.Linux.{linuxLength, linuxBody, directionHolds, linuxLengthHolds, linuxCode}
+use Rattle.header.specs.Sent.{Request, sent, formBy, controlBy, codeBy, levelBy, formOf, controlOf, bodyOf, HasStructure, headerCode, above, refusedByLevel, checksCode}
 
 -- ---- a header of any form, with the return code inside it
 
@@ -57,7 +64,7 @@ module _ (buffer : List ℕ) (code : ℕ) where
       → structureSize code ≤ length (take (length buffer - 28) (drop 28 buffer))
   room-by e h = rw (rest, e) h
 
-  pub above-by : (level n : Level) → code ≡ controlCode buffer → n ≡ need code (take (length buffer - 28) (drop 28 buffer)) → ltb (level .0) (n .0) ≡ above level buffer
+  pub above-by : (level n : Level) → code ≡ controlCode buffer → n ≡ need code (take (length buffer - 28) (drop 28 buffer)) → ltb (level .0) (n .0) ≡ above level (sent Srb buffer)
   unfolding above
   above-by level n e p = rw (p, rest, e)
 
@@ -92,72 +99,183 @@ module _ (control n : ℕ) (body : List ℕ) where
       le-trans (leb-true (structureSize control + dataSize control body) n (both-left (leb (structureSize control + dataSize control body) n) (leb n (length body)) h))
       (leb-true n (length body) (both-right (leb (structureSize control + dataSize control body) n) (leb n (length body)) h))
 
+-- ---- Length of the Linux header, which counts the header too
+
+-- a number less than another by what both are raised by
+raised : (a b k : ℕ) → k ≤ b → leb (k + a) b ≡ leb a (b - k)
+raised a b k h =
+    by-bool (λ (t : Bool). leb a (b - k) ≡ t → leb (k + a) b ≡ t)
+    (λ e. let l : a ≤ b - k = leb-true a (b - k) e in le-leb (k + a) b (omega arith))
+    (λ e. let l : b - k < a = leb-false a (b - k) e in lt-leb (k + a) b (omega arith))
+    (leb a (b - k)) refl
+
+module _ (control n : ℕ) (buffer : List ℕ) (e : n ≡ linuxLength buffer) where
+  -- too short for the header
+  pub short-header : n < 20 → false ≡ linuxLengthHolds control buffer
+  unfolding linuxLengthHolds
+  short-header h =
+      rw (← e, lt-leb (20 + (structureSize control + dataSize control (linuxBody buffer))) n (omega arith)) refl
+
+  -- without the header, Length is held to the body, lent as the rest of the buffer
+  pub linux-length-by : (r : Bool) → 20 ≤ n → 20 ≤ length buffer → r ≡ lengthHolds control (n - 20) (take (length buffer - 20) (drop 20 buffer))
+      → r ≡ linuxLengthHolds control buffer
+  unfolding linuxLengthHolds lengthHolds
+  linux-length-by r h k p =
+      let d : length (linuxBody buffer) ≡ length buffer - 20 = length-drop 20 buffer in
+      let c : leb n (length buffer) ≡ leb (n - 20) (length buffer - 20) = rw (← raised (n - 20) (length buffer) 20 k, add-back) refl in
+      rw (← e, raised (structureSize control + dataSize control (linuxBody buffer)) n 20 h, c) (rw (rest, d) at p)
+    where
+      add-back : 20 + (n - 20) ≡ n
+      add-back = omega arith
+
 -- ---- a header that passed
 
 Passes : ℕ → Type 0
 Passes code = code ≡ 0
 
 -- its structure and its data are there
-pub header-room : (buffer : List ℕ) → headerCode buffer ≡ 0
-    → structureSize (controlCode buffer) + dataSize (controlCode buffer) (srbBody buffer) ≤ length (srbBody buffer)
-unfolding headerCode codeChecked Passes
-header-room buffer h =
+srb-room : (buffer : List ℕ) → srbCode buffer ≡ 0 → HasStructure (sent Srb buffer)
+unfolding srbCode codeChecked Passes
+srb-room buffer h =
     let a = came-then Passes (eqb (headerLength buffer) 28) (λ e. omega arith) h in
     let b = came-then Passes (known (controlCode buffer)) (λ e. omega arith) (a .1) in
     let c = came-then Passes (signatureHolds (controlCode buffer) buffer) (λ e. omega arith) (b .1) in
     let d = came-then Passes (lengthHolds (controlCode buffer) (lengthField buffer) (srbBody buffer)) (λ e. omega arith) (c .1) in
     length-room (controlCode buffer) (lengthField buffer) (srbBody buffer) (d .0)
 
--- the same of a callee's answer
-pub structure-room : (buffer : List ℕ) (code : ℕ) → code ≡ headerCode buffer → code ≡ 0 → structureSize (controlCode buffer) ≤ length (srbBody buffer)
-structure-room buffer code e z = omega (arith, header-room buffer (sym e ∙ z))
+linux-room : (control : ℕ) (buffer : List ℕ) → linuxCode control buffer ≡ 0 → HasStructure (sent (Linux control) buffer)
+unfolding linuxCode linuxLengthHolds Passes
+linux-room control buffer h =
+    let a = came-then Passes (directionHolds buffer) (λ e. omega arith) h in
+    let b = came-then Passes (known control) (λ e. omega arith) (a .1) in
+    let c = came-then Passes (linuxLengthHolds control buffer) (λ e. omega arith) (b .1) in
+    let size : ℕ = structureSize control + dataSize control (linuxBody buffer) in
+    let n : ℕ = linuxLength buffer in
+    let least : 20 + size ≤ n = leb-true (20 + size) n (both-left (leb (20 + size) n) (leb n (length buffer)) (c .0)) in
+    let most : n ≤ length buffer = leb-true n (length buffer) (both-right (leb (20 + size) n) (leb n (length buffer)) (c .0)) in
+    rw (length-drop 20 buffer) (omega arith)
 
--- ---- a level check that was passed
-
-pub access-header : (level : Level) (buffer : List ℕ) → accessCode level buffer ≡ 0 → headerCode buffer ≡ 0
-unfolding accessCode
-access-header level buffer h =
-    by-bool (λ (b : Bool). eqb (headerCode buffer) 0 ≡ b → cond b (cond (above level buffer) writeAttempted success) (headerCode buffer) ≡ 0 → headerCode buffer ≡ 0)
-    (λ e _. eqb-true (headerCode buffer) 0 e) (λ _ z. z) (eqb (headerCode buffer) 0) refl h
-
-pub access-room : (level : Level) (buffer : List ℕ) (code : ℕ) → code ≡ accessCode level buffer → code ≡ 0
-    → structureSize (controlCode buffer) + dataSize (controlCode buffer) (srbBody buffer) ≤ length (srbBody buffer)
-access-room level buffer code e z = header-room buffer (access-header level buffer (sym e ∙ z))
-
--- ---- the level
-
--- a code of the checks up to the level is small
-pub access-small : (level : Level) (buffer : List ℕ) → accessCode level buffer ≤ 4
-unfolding accessCode headerCode codeChecked
-access-small level buffer =
-    either Small (eqb (headerCode buffer) success) (either Small (above level buffer) (omega arith) (omega arith))
-    (either Small (eqb (headerLength buffer) (srb .size))
-    (either Small (known (controlCode buffer))
-    (either Small (signatureHolds (controlCode buffer) buffer)
-    (either Small (lengthHolds (controlCode buffer) (lengthField buffer) (srbBody buffer)) (omega arith) (omega arith)) (omega arith)) (omega arith))
-    (omega arith))
+pub header-room : (r : Request) → headerCode r ≡ 0 → HasStructure r
+header-room r = by-kind (r .kind) (r .buffer)
   where
-    Small : ℕ → Type 0
-    Small n = n ≤ 4
+    by-kind : (kind : Kind) (buffer : List ℕ) → codeBy kind buffer ≡ 0 → HasStructure (sent kind buffer)
+    by-kind Srb buffer = srb-room buffer
+    by-kind (Linux control) buffer = linux-room control buffer
 
--- a request that the level refuses is answered 4
-pub access-refused : (level : Level) (buffer : List ℕ) → levelRefuses level buffer ≡ true → accessCode level buffer ≡ writeAttempted
-unfolding levelRefuses accessCode
-access-refused level buffer h =
-    rw (both-left (eqb (headerCode buffer) success) (above level buffer) h, both-right (eqb (headerCode buffer) success) (above level buffer) h) refl
+-- the same of a callee's answer
+pub structure-room : (buffer : List ℕ) (code : ℕ) → code ≡ srbCode buffer → code ≡ 0 → structureSize (controlCode buffer) ≤ length (srbBody buffer)
+structure-room buffer code e z = omega (arith, srb-room buffer (sym e ∙ z))
 
-module _ (l m : Level) (buffer : List ℕ) (h : l .0 ≤ m .0) where
-  above-higher : above l buffer ≡ false → above m buffer ≡ false
+-- the return code is in the header
+pub form-room : (r : Request) → formOf r .place + 4 ≤ formOf r .size
+form-room r = by-kind (r .kind)
+  where
+    by-kind : (kind : Kind) → formBy kind .place + 4 ≤ formBy kind .size
+    by-kind Srb = omega arith
+    by-kind (Linux control) = omega arith
+
+-- ---- need
+
+-- no need is above Full
+pub need-full : (control : ℕ) (body : List ℕ) → need control body .0 ≤ full .0
+unfolding need
+need-full control body =
+    either Within (eqb control getDriverInfo) (omega arith)
+    (either Within (eqb control getPhyInfo) (omega arith)
+    (either Within (eqb control setPhyInfo) (omega arith)
+    (either Within (eqb control getLinkErrors) (omega arith)
+    (either Within (eqb control stpPassthru) (need-bound (command body))
+    (either Within (eqb control getSataSignature) (omega arith)
+    (either Within (eqb control getScsiAddress) (omega arith)
+    (either Within (eqb control getDeviceAddress) (omega arith) (omega arith))))))))
+  where
+    Within : Level → Type 0
+    Within l = l .0 ≤ full .0
+
+module _ (level : Level) (control : ℕ) (buffer : List ℕ) where
+  -- so a request under the Linux header is never denied
+  linux-above : above level (sent (Linux control) buffer) ≡ false
+  unfolding above
+  linux-above = le-ltb (full .0) (need control (linuxBody buffer) .0) (need-full control (linuxBody buffer))
+
+  -- and its checks end before the level
+  linux-checked : (code : ℕ) → code ≡ linuxCode control buffer → code ≡ checksCode level (sent (Linux control) buffer)
+  unfolding checksCode
+  linux-checked code e =
+      e ∙ rw linux-above (by-bool (λ (t : Bool). eqb (linuxCode control buffer) 0 ≡ t → linuxCode control buffer ≡ cond t success (linuxCode control buffer))
+      (λ z. eqb-true (linuxCode control buffer) 0 z) (λ _. refl) (eqb (linuxCode control buffer) 0) refl)
+
+-- ---- a match on the kind
+
+pub srb-size : (kind : Kind) (n : ℕ) → kind ≡ Srb → formBy kind .size ≤ n → srb .size ≤ n
+srb-size kind n e h = rw e at h
+
+pub linux-size : (kind : Kind) (control n : ℕ) → kind ≡ Linux control → formBy kind .size ≤ n → linux .size ≤ n
+linux-size kind control n e h = rw e at h
+
+pub srb-access : (kind : Kind) (level : Level) (buffer : List ℕ) (code : ℕ) → kind ≡ Srb → code ≡ checksCode level (sent Srb buffer)
+    → code ≡ checksCode level (sent kind buffer)
+srb-access kind level buffer code e p = rw e p
+
+pub linux-access : (kind : Kind) (level : Level) (control : ℕ) (buffer : List ℕ) (code : ℕ) → kind ≡ Linux control → code ≡ linuxCode control buffer
+    → code ≡ checksCode level (sent kind buffer)
+linux-access kind level control buffer code e p = rw e (linux-checked level control buffer code p)
+
+-- ---- the checks up to the level
+
+module _ (level : Level) (r : Request) where
+  checks-header : checksCode level r ≡ 0 → headerCode r ≡ 0
+  unfolding checksCode
+  checks-header h =
+      by-bool (λ (b : Bool). eqb (headerCode r) 0 ≡ b → cond b (cond (above level r) writeAttempted success) (headerCode r) ≡ 0 → headerCode r ≡ 0)
+      (λ e _. eqb-true (headerCode r) 0 e) (λ _ z. z) (eqb (headerCode r) 0) refl h
+
+  -- a request that passes them has its structure and its data
+  pub checks-room : checksCode level r ≡ 0 → HasStructure r
+  checks-room h = header-room r (checks-header h)
+
+  -- their code is small
+  pub checks-small : checksCode level r ≤ 4
+  unfolding checksCode srbCode codeChecked linuxCode
+  checks-small =
+      either Small (eqb (headerCode r) success) (either Small (above level r) (omega arith) (omega arith)) (by-kind (r .kind) (r .buffer))
+    where
+      Small : ℕ → Type 0
+      Small n = n ≤ 4
+
+      by-kind : (kind : Kind) (buffer : List ℕ) → codeBy kind buffer ≤ 4
+      by-kind Srb buffer =
+          either Small (eqb (headerLength buffer) (srb .size))
+          (either Small (known (controlCode buffer))
+          (either Small (signatureHolds (controlCode buffer) buffer)
+          (either Small (lengthHolds (controlCode buffer) (lengthField buffer) (srbBody buffer)) (omega arith) (omega arith)) (omega arith)) (omega arith))
+          (omega arith)
+      by-kind (Linux control) buffer =
+          either Small (directionHolds buffer)
+          (either Small (known control) (either Small (linuxLengthHolds control buffer) (omega arith) (omega arith)) (omega arith)) (omega arith)
+
+  -- one that the level refuses is answered 4
+  pub checks-refused : refusedByLevel level r ≡ true → checksCode level r ≡ writeAttempted
+  unfolding refusedByLevel checksCode
+  checks-refused h =
+      rw (both-left (eqb (headerCode r) success) (above level r) h, both-right (eqb (headerCode r) success) (above level r) h) refl
+
+module _ (l m : Level) (r : Request) (h : l .0 ≤ m .0) where
+  held-higher : (kind : Kind) → levelBy kind l .0 ≤ levelBy kind m .0
+  held-higher Srb = h
+  held-higher (Linux control) = omega arith
+
+  above-higher : above l r ≡ false → above m r ≡ false
   unfolding above
   above-higher a =
-      let n : need (controlCode buffer) (srbBody buffer) .0 ≤ l .0 = ltb-false (l .0) (need (controlCode buffer) (srbBody buffer) .0) a in
-      le-ltb (m .0) (need (controlCode buffer) (srbBody buffer) .0) (omega arith)
+      let n : ℕ = need (controlOf r) (bodyOf r) .0 in
+      le-ltb (levelBy (r .kind) m .0) n (le-trans (ltb-false (levelBy (r .kind) l .0) n a) (held-higher (r .kind)))
 
   -- one that it does not refuse is answered the same at a higher level
-  pub access-higher : levelRefuses l buffer ≡ false → accessCode l buffer ≡ accessCode m buffer
-  unfolding levelRefuses accessCode
-  access-higher a =
+  pub checks-higher : refusedByLevel l r ≡ false → checksCode l r ≡ checksCode m r
+  unfolding refusedByLevel checksCode
+  checks-higher a =
       by-bool
-      (λ (t : Bool). t && above l buffer ≡ false
-      → cond t (cond (above l buffer) writeAttempted success) (headerCode buffer) ≡ cond t (cond (above m buffer) writeAttempted success) (headerCode buffer))
-      (λ f. rw (f, above-higher f) refl) (λ _. refl) (eqb (headerCode buffer) success) a
+      (λ (t : Bool). t && above l r ≡ false
+      → cond t (cond (above l r) writeAttempted success) (headerCode r) ≡ cond t (cond (above m r) writeAttempted success) (headerCode r))
+      (λ f. rw (f, above-higher f) refl) (λ _. refl) (eqb (headerCode r) success) a

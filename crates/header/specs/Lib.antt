@@ -1,3 +1,5 @@
 pub mod Form
 pub mod Table
-pub mod Header
+pub mod Srb
+pub mod Linux
+pub mod Sent

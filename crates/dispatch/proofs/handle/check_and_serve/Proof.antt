@@ -1,7 +1,6 @@
 -- `dispatch::handle::check_and_serve` meets its contract. Assumes nothing.
-use Rattle.header.proofs.Laws.{access-room}
 use Rattle.dispatch.specs.Request.{answered}
-use Rattle.dispatch.proofs.Laws.{refused-by}
+use Rattle.dispatch.proofs.Laws.{checked-room, refused-by}
 use borrow.Author.Needs.{needs}
 use Rattle.laws.specs.Choice.{picks}
 use Rattle.dispatch.proofs.handle.check_and_serve.Statement.{statement}
@@ -12,5 +11,5 @@ unfolding answered
 check-and-serve-spec =
     tie.close
     (tie.spec (λ c κs. search needs)
-    (λ c κs. (search needs, (search needs, (search needs, (search needs, search (access-room, needs)))))) (λ c. search needs)
+    (λ c κs. (search needs, (search needs, (search needs, (search needs, search (checked-room, needs)))))) (λ c. search needs)
     (λ c. search needs) (λ c. search needs) (λ c. search picks) (λ c. search needs) (λ c. search (refused-by, picks)))

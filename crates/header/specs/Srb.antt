@@ -1,17 +1,16 @@
--- The header of a request and the checks up to the level (document 01, "Request"): "A buffer starts with the 28-byte SRB_IO_CONTROL
--- (4.1.3.1)". The body is what stands behind it. Assumes nothing.
+-- The first header and its checks before the level (document 01, "Request"): "A buffer starts with the 28-byte SRB_IO_CONTROL (4.1.3.1)".
+-- Assumes nothing.
 use mathlib.Core.Bool.{Bool, cond, _&&_}
 use mathlib.Core.List.{List}
 use Prim.Native.Nat.{ℕ, _+_}
-use lib.Dec.{eqb, ltb, leb}
+use lib.Dec.{eqb, leb}
 use lib.ListN.{length}
 use Rattle.laws.specs.Splice.{part}
-use Rattle.codes.specs.Codes.{success, badControlCode, invalidParameter, writeAttempted}
+use Rattle.codes.specs.Codes.{success, badControlCode, invalidParameter}
 use Rattle.wire.specs.Number.{number}
 use Rattle.wire.specs.Same.{sameBytes}
-use Rattle.level.specs.declared.Level.{Level}
 use Rattle.header.specs.Form.{srb, behindHeader}
-use Rattle.header.specs.Table.{known, structureSize, dataSize, signedAll, csmiAll, csmiSas, need}
+use Rattle.header.specs.Table.{known, structureSize, dataSize, signedAll, csmiAll, csmiSas}
 
 -- ---- its fields
 
@@ -56,17 +55,5 @@ codeChecked code buffer =
     badControlCode
 
 -- "HeaderLength 28", and then those
-unfoldable pub headerCode : List ℕ → ℕ
-headerCode buffer = cond (eqb (headerLength buffer) (srb .size)) (codeChecked (controlCode buffer) buffer) invalidParameter
-
--- "its need is above it"
-unfoldable pub above : Level → List ℕ → Bool
-above level buffer = ltb (level .0) (need (controlCode buffer) (srbBody buffer) .0)
-
--- "passes all before the level and its need is above it", of the header's checks
-unfoldable pub levelRefuses : Level → List ℕ → Bool
-levelRefuses level buffer = eqb (headerCode buffer) success && above level buffer
-
--- "level": 4 where "its need is above it"; else what the checks before it gave
-unfoldable pub accessCode : Level → List ℕ → ℕ
-accessCode level buffer = cond (eqb (headerCode buffer) success) (cond (above level buffer) writeAttempted success) (headerCode buffer)
+unfoldable pub srbCode : List ℕ → ℕ
+srbCode buffer = cond (eqb (headerLength buffer) (srb .size)) (codeChecked (controlCode buffer) buffer) invalidParameter

@@ -1,9 +1,9 @@
--- `header::checks::check_code` meets its contract. Assumes nothing.
+-- `header::srb::check_code` meets its contract. Assumes nothing.
 use borrow.Author.Needs.{needs}
-use Rattle.header.specs.Header.{codeChecked}
+use Rattle.header.specs.Srb.{codeChecked}
 use Rattle.laws.specs.Choice.{picks}
-use Rattle.header.proofs.checks.check_code.Statement.{statement}
-use Rattle.header.proofs.checks.check_code.Tie as tie
+use Rattle.header.proofs.srb.check_code.Statement.{statement}
+use Rattle.header.proofs.srb.check_code.Tie as tie
 
 pub check-code-spec : {M : Type 1} → statement M
 unfolding codeChecked

@@ -1,8 +1,8 @@
--- `header::checks::is_above` meets its contract. Assumes nothing.
+-- `header::srb::is_above` meets its contract. Assumes nothing.
 use borrow.Author.Needs.{needs}
 use Rattle.header.proofs.Laws.{room-by, above-by}
-use Rattle.header.proofs.checks.is_above.Statement.{statement}
-use Rattle.header.proofs.checks.is_above.Tie as tie
+use Rattle.header.proofs.srb.is_above.Statement.{statement}
+use Rattle.header.proofs.srb.is_above.Tie as tie
 
 pub is-above-spec : {M : Type 1} → statement M
 is-above-spec =

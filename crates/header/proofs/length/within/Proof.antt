@@ -1,8 +1,8 @@
--- `header::checks::within` meets its contract. Assumes nothing.
+-- `header::length::within` meets its contract. Assumes nothing.
 use borrow.Author.Needs.{needs}
 use Rattle.header.proofs.Laws.{short-structure, short-body, inside-body, structure-inside}
-use Rattle.header.proofs.checks.within.Statement.{statement}
-use Rattle.header.proofs.checks.within.Tie as tie
+use Rattle.header.proofs.length.within.Statement.{statement}
+use Rattle.header.proofs.length.within.Tie as tie
 
 pub within-spec : {M : Type 1} → statement M
 within-spec =

@@ -1,8 +1,8 @@
--- `header::checks::body_length_holds` meets its contract. Assumes nothing.
+-- `header::srb::body_length_holds` meets its contract. Assumes nothing.
 use borrow.Author.Needs.{needs}
 use Rattle.header.proofs.Laws.{length-by}
-use Rattle.header.proofs.checks.body_length_holds.Statement.{statement}
-use Rattle.header.proofs.checks.body_length_holds.Tie as tie
+use Rattle.header.proofs.srb.body_length_holds.Statement.{statement}
+use Rattle.header.proofs.srb.body_length_holds.Tie as tie
 
 pub body-length-holds-spec : {M : Type 1} → statement M
 body-length-holds-spec =

@@ -1,7 +1,7 @@
--- `header::checks::data_within` meets its contract. Assumes nothing.
+-- `header::length::data_within` meets its contract. Assumes nothing.
 use borrow.Author.Needs.{needs}
-use Rattle.header.proofs.checks.data_within.Statement.{statement}
-use Rattle.header.proofs.checks.data_within.Tie as tie
+use Rattle.header.proofs.length.data_within.Statement.{statement}
+use Rattle.header.proofs.length.data_within.Tie as tie
 
 pub data-within-spec : {M : Type 1} → statement M
 data-within-spec =

@@ -1,9 +1,0 @@
--- `header::checks::check_control` meets its contract. Assumes nothing.
-use borrow.Author.Needs.{needs}
-use Rattle.header.proofs.checks.check_control.Statement.{statement}
-use Rattle.header.proofs.checks.check_control.Tie as tie
-
-pub check-control-spec : {M : Type 1} → statement M
-check-control-spec =
-    tie.close
-    (tie.spec (λ c κs. search needs) (λ c κs. search needs) (λ c. cc))

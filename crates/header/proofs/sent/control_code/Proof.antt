@@ -1,0 +1,13 @@
+-- `header::sent::control_code` meets its contract. Assumes nothing.
+use Rattle.header.proofs.Laws.{srb-size}
+use borrow.Author.Needs.{needs}
+use Rattle.header.proofs.sent.control_code.Statement.{statement}
+use Rattle.header.proofs.sent.control_code.Tie as tie
+
+returns : tie.Need-returns
+returns c = cc
+
+pub control-code-spec : {M : Type 1} → statement M
+control-code-spec =
+    tie.close
+    (tie.spec (λ c. search needs) (λ c κs. search (srb-size, needs)) (λ c. search needs) returns (λ c. search needs))
