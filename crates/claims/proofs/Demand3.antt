@@ -34,12 +34,13 @@ use Rattle.state.specs.State.{stateWith, adapterHolds, stateHolds, zeroState}
 use Rattle.state.specs.Open.{Opened, refusedOpening, opened, openNumber, openedFile, openedText, openedOf}
 use Rattle.state.proofs.AcceptedLaws.{Open, open-accepted}
 use Rattle.service.specs.Serve.{Store}
+use Rattle.header.specs.declared.Kind.the-variants.{Linux}
 use Rattle.header.specs.Sent.{Request}
 use Rattle.dispatch.specs.Request.{Point, point, Outcome, stateNumber, bufferNumber, untouched, handled}
 use Rattle.claims.specs.Run.{Exchange, Entry, replyOf, exchangeOf, step, entryOf, run, openedAt, wholeRun, exchanges, requestsIn, notDenied, denial}
 use Rattle.claims.specs.LastWriter.{toldBy, Writer, after, last, Sector, sectorIn, sectorWriter, selectsBy, rateWriter}
 use Rattle.claims.specs.Claim.{LastWriterHalf, OneRun, givenBoth, higherRun, Claim}
-use Rattle.claims.proofs.Steps.{denied-step, level-kept, Same, same-step}
+use Rattle.claims.proofs.Steps.{denied-step, linux-given, level-kept, Same, same-step}
 use Rattle.claims.proofs.Moved.{Sized}
 use Rattle.claims.proofs.Effect.{selectsIn}
 use Rattle.claims.proofs.Reached.{request-effect, Reached, sized-reached, reached-step, reached-start, reached}
@@ -184,6 +185,8 @@ one-run text file store requests =
       level = kept step entryOf (λ (q : Point). q .state .level ≡ p .state .level) (λ q r e. level-kept q r ∙ e) p requests refl;
       denials = noted step entryOf (λ (e : Entry). e .denied ≡ true → e .exchange .reply ≡ denial (e .exchange .sent))
           (λ q r d. ap (λ (o : Outcome). replyOf o) (denied-step q r d)) p requests;
+      linux = noted step entryOf (λ (e : Entry). (control : ℕ) → e .exchange .sent .kind ≡ Linux control → e .denied ≡ false)
+          (λ q r control k. linux-given q r control k) p requests;
       lastWriter = last-writer text file store requests;
     }
 

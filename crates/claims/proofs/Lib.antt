@@ -8,4 +8,5 @@ pub mod DiskEffect
 pub mod Reached
 pub mod Demand3
 pub mod Conversions
+pub mod Sameness
 pub mod Starred

@@ -1,19 +1,20 @@
 -- One request at two levels: a denied one changes its return code alone, one that is not denied does the same at a higher level, and
 -- the level stays. Assumes nothing.
 use mathlib.Core.Path.{_≡_, refl}
-use mathlib.Core.Bool.{Bool, true, false, cond}
+use mathlib.Core.Bool.{Bool, true, false, cond, _&&_}
 use Prim.Native.Nat.{ℕ, _≤_}
 use native.Mathlib.Omega.{arith}
 use lib.Dec.{eqb}
 use borrow.Author.Tests.{le-leb}
-use Rattle.laws.specs.Choice.{both-left, both-right, either}
+use Rattle.laws.specs.Choice.{by-bool, both-left, both-right, either}
 use Rattle.level.specs.declared.Level.{Level}
 use Rattle.adapter.specs.Adapter.{Adapter}
 use Rattle.state.specs.State.{stateWith, stateHolds}
 use Rattle.service.specs.Serve.{Store}
+use Rattle.header.specs.declared.Kind.the-variants.{Linux}
 use Rattle.header.specs.Sent.{Request, refusedByLevel}
 use Rattle.dispatch.specs.Request.{Point, point, Outcome, outcome, stateNumber, callNumber, answered, answeredAt, handled}
-use Rattle.header.proofs.Laws.{checks-refused, checks-higher}
+use Rattle.header.proofs.Laws.{never-refused, checks-refused, checks-higher}
 use Rattle.claims.specs.Run.{denied, denial}
 
 -- ---- denied
@@ -24,6 +25,12 @@ denied-step p r h =
     let a : Bool = eqb (callNumber p r) 0 in
     let b : Bool = refusedByLevel (p .state .level) r in
     rw (both-left a b h, checks-refused (p .state .level) r (both-right a b h)) refl
+
+-- a request under the Linux header never is
+pub linux-given : (p : Point) (r : Request) (control : ℕ) → r .kind ≡ Linux control → denied p r ≡ false
+unfolding denied
+linux-given p r control e =
+    rw (never-refused (p .state .level) r (rw e refl)) (by-bool (λ (b : Bool). b && false ≡ false) refl refl (eqb (callNumber p r) 0))
 
 -- ---- the level stays
 
@@ -44,6 +51,11 @@ same-cond : (t : Bool) {a b c d : Outcome} → (t ≡ true → Same a c) → Sam
 same-cond true p q = p refl
 same-cond false p q = q
 
+-- the number of the state and the medium does not go by the level
+pub number-same : (ad : Adapter) (l m : Level) → l .0 ≤ m .0 → m .0 ≤ 3 → (n : ℕ) → stateNumber (stateWith l ad) n ≡ stateNumber (stateWith m ad) n
+unfolding stateNumber stateHolds
+number-same ad l m h b n = rw (le-leb (l .0) 3 (omega arith), le-leb (m .0) 3 b) refl
+
 module _ (ad : Adapter) (store : Store) (r : Request) (l m : Level) (h : l .0 ≤ m .0) (b : m .0 ≤ 3) where
   abbrev low : Point
   low = point (stateWith l ad) store
@@ -56,14 +68,10 @@ module _ (ad : Adapter) (store : Store) (r : Request) (l m : Level) (h : l .0 �
   unfolding answeredAt
   served-same a = rw (checks-higher l m r h a) (record { call = refl; adapter = refl; store = refl; buffer = refl })
 
-  number-same : (n : ℕ) → stateNumber (stateWith l ad) n ≡ stateNumber (stateWith m ad) n
-  unfolding stateNumber stateHolds
-  number-same n = rw (le-leb (l .0) 3 (omega arith), le-leb (m .0) 3 b) refl
-
   same-levels : denied low r ≡ false → Same (handled low r) (handled high r)
   unfolding denied handled
   same-levels n =
-      rw (← number-same)
+      rw (← number-same ad l m h b)
       (same-cond (eqb (callNumber low r) 0) (λ a. served-same (rw a at n)) (record { call = refl; adapter = refl; store = refl; buffer = refl }))
 
 -- the step of two points that differ in the level alone

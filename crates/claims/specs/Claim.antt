@@ -1,8 +1,8 @@
--- Demand 3, in one piece (document 01, "Two runs and the last writer"). Its proof is `claim` in proofs/Demand3.antt. That each request of a run is
+-- Demand 3, in one piece (document 01, "Two runs and the last writer"; W-201: "demand 3's lists may hold" requests under either header). Its proof is `claim` in proofs/Demand3.antt. That each request of a run is
 -- answered and carried out as document 01 defines stands in `run` (Run.antt), which is made of `openedOf` and `handled`; the contracts of
--- `state::open` and `dispatch::request` equate the calls with these two. Assumes nothing.
+-- `state::open`, `dispatch::request` and `dispatch::request_linux` equate the calls with these two. Assumes nothing.
 use mathlib.Core.Path.{_≡_}
-use mathlib.Core.Bool.{true}
+use mathlib.Core.Bool.{true, false}
 use mathlib.Core.List.{List}
 use Prim.Native.Nat.{ℕ, _<_, _≤_}
 use lib.ListN.{length}
@@ -14,6 +14,7 @@ use Rattle.level.specs.Text.{textLevel}
 use Rattle.state.specs.State.{stateWith, zeroState}
 use Rattle.state.specs.Open.{openedOf}
 use Rattle.service.specs.Serve.{Store}
+use Rattle.header.specs.declared.Kind.the-variants.{Linux}
 use Rattle.header.specs.Sent.{Request}
 use Rattle.claims.specs.Run.{Entry, End, wholeRun, exchanges, requestsIn, notDenied, denial}
 use Rattle.claims.specs.LastWriter.{Sector, sectorIn, lastSector, lastMinimum, lastMaximum}
@@ -42,6 +43,8 @@ pub record OneRun (text file : List ℕ) (store : Store) (requests : List Reques
   pub level : end .point .state .level ≡ openedOf text file (store .medium) .state .level
   -- the reply to a denied request is the request with return code 4, and call number 0
   pub denials : All (λ (e : Entry). e .denied ≡ true → e .exchange .reply ≡ denial (e .exchange .sent)) (end .log)
+  -- requests under the Linux header "are never denied" (W-201), so both runs are given them
+  pub linux : All (λ (e : Entry). (control : ℕ) → e .exchange .sent .kind ≡ Linux control → e .denied ≡ false) (end .log)
   pub lastWriter : LastWriterHalf text file store end
 
 -- the ends of the lower and the higher run, compared

@@ -2,4 +2,5 @@ pub mod Run
 pub mod LastWriter
 pub mod Claim
 pub mod RoundTrip
+pub mod Sameness
 pub mod Starred

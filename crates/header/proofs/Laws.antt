@@ -1,5 +1,5 @@
 -- What the proofs of this crate and the layers above cite. Assumes nothing.
-use mathlib.Core.Path.{_≡_, refl, sym, _∙_}
+use mathlib.Core.Path.{_≡_, refl, sym, _∙_, ap}
 use mathlib.Core.Bool.{Bool, true, false, cond, _&&_}
 use mathlib.Core.List.{List, _++_}
 use Prim.Native.Nat.{ℕ, _+_, _-_, _<_, _≤_}
@@ -10,9 +10,9 @@ use lib.ListN.{length, take, drop, length-append, length-drop}
 use lib.Seq.{length-take-le, drop-at}
 use borrow.Author.Tests.{lt-leb, le-leb, leb-true, leb-false, le-ltb, ltb-false, eqb-true}
 use Rattle.laws.specs.Choice.{by-bool, both-left, both-right, came-then, either}
-use Rattle.laws.specs.Splice.{part, part-splice, drop-splice, rest}
+use Rattle.laws.specs.Splice.{part-splice, drop-splice, rest}
 use Rattle.codes.specs.Codes.{getDriverInfo, getPhyInfo, setPhyInfo, getLinkErrors, stpPassthru, getSataSignature, getScsiAddress, getDeviceAddress, success, writeAttempted}
-use Rattle.wire.specs.Number.{bytes}
+use Rattle.wire.specs.Number.{number, bytes}
 use Rattle.wire.proofs.NumberLaws.{length-bytes, number-bytes}
 use Rattle.level.specs.declared.Level.{Level}
 use Rattle.level.specs.Text.{full}
@@ -29,11 +29,13 @@ use Rattle.header.specs.Sent.{Request, sent, formBy, controlBy, codeBy, 
 -- ---- a header of any form, with the return code inside it
 
 module _ (f : Form) (h : f .place + 4 ≤ f .size) where
-  -- the return code that was written stands there
+  -- the four bytes that were written stand there
+  pub code-there : (buffer : List ℕ) (code : ℕ) → f .size ≤ length buffer → returnCode f (withCode f buffer code) ≡ number (bytes 4 code)
+  code-there buffer code l = ap number (rw (length-bytes 4 code) at (part-splice buffer (f .place) (bytes 4 code) (omega arith)))
+
+  -- and so the return code does
   pub code-shown : (buffer : List ℕ) (code : ℕ) → f .size ≤ length buffer → code < 4294967296 → returnCode f (withCode f buffer code) ≡ code
-  code-shown buffer code l k =
-      let p : part (withCode f buffer code) (f .place) 4 ≡ bytes 4 code = rw (length-bytes 4 code) at (part-splice buffer (f .place) (bytes 4 code) (omega arith)) in
-      rw (p, number-bytes 4 code (omega arith)) refl
+  code-shown buffer code l k = code-there buffer code l ∙ number-bytes 4 code (omega arith)
 
   module _ (buffer body : List ℕ) (l : f .size ≤ length buffer) where
     front : length (take (f .size) buffer) ≡ f .size
@@ -192,18 +194,22 @@ need-full control body =
     Within : Level → Type 0
     Within l = l .0 ≤ full .0
 
-module _ (level : Level) (control : ℕ) (buffer : List ℕ) where
-  -- so a request under the Linux header is never denied
-  linux-above : above level (sent (Linux control) buffer) ≡ false
+-- so a request that is held to Full is never denied, and its checks end before the level: one under the Linux header at every level, one
+-- under the first at Full
+module _ (level : Level) (r : Request) (h : levelBy (r .kind) level ≡ full) where
+  full-above : above level r ≡ false
   unfolding above
-  linux-above = le-ltb (full .0) (need control (linuxBody buffer) .0) (need-full control (linuxBody buffer))
+  full-above = rw h (le-ltb (full .0) (need (controlOf r) (bodyOf r) .0) (need-full (controlOf r) (bodyOf r)))
 
-  -- and its checks end before the level
-  linux-checked : (code : ℕ) → code ≡ linuxCode control buffer → code ≡ checksCode level (sent (Linux control) buffer)
+  pub never-refused : refusedByLevel level r ≡ false
+  unfolding refusedByLevel
+  never-refused = rw full-above (by-bool (λ (t : Bool). t && false ≡ false) refl refl (eqb (headerCode r) success))
+
+  pub full-checks : checksCode level r ≡ headerCode r
   unfolding checksCode
-  linux-checked code e =
-      e ∙ rw linux-above (by-bool (λ (t : Bool). eqb (linuxCode control buffer) 0 ≡ t → linuxCode control buffer ≡ cond t success (linuxCode control buffer))
-      (λ z. eqb-true (linuxCode control buffer) 0 z) (λ _. refl) (eqb (linuxCode control buffer) 0) refl)
+  full-checks =
+      rw full-above (by-bool (λ (t : Bool). eqb (headerCode r) success ≡ t → cond t success (headerCode r) ≡ headerCode r)
+      (λ z. sym (eqb-true (headerCode r) success z)) (λ _. refl) (eqb (headerCode r) success) refl)
 
 -- ---- a match on the kind
 
@@ -219,7 +225,7 @@ srb-access kind level buffer code e p = rw e p
 
 pub linux-access : (kind : Kind) (level : Level) (control : ℕ) (buffer : List ℕ) (code : ℕ) → kind ≡ Linux control → code ≡ linuxCode control buffer
     → code ≡ checksCode level (sent kind buffer)
-linux-access kind level control buffer code e p = rw e (linux-checked level control buffer code p)
+linux-access kind level control buffer code e p = rw e (p ∙ sym (full-checks level (sent (Linux control) buffer) refl))
 
 -- ---- the checks up to the level
 
