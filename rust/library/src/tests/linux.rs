@@ -71,8 +71,8 @@ fn the_answers_to_a_linux_request_in_their_order() {
         buffer[linux::RETURN_CODE]
     };
     // Direction before the code, and the code before Length
-    assert_eq!(code_of(2, |buffer| buffer[linux::DIRECTION] = 2), 3);
-    assert_eq!(code_of(2, |buffer| buffer[linux::LENGTH] = 0), 2);
+    assert_eq!(code_of(24, |buffer| buffer[linux::DIRECTION] = 2), 3);
+    assert_eq!(code_of(24, |buffer| buffer[linux::LENGTH] = 0), 2);
     assert_eq!(code_of(21, |buffer| buffer[linux::LENGTH] += 1), 3);
 }
 

@@ -40,7 +40,7 @@ fn buffers_of_20_to_28_bytes() {
     }
     // no body at all
     assert_eq!(answer(1, &mut buffer(&[])), 3);
-    assert_eq!(answer(2, &mut buffer(&[])), 2);
+    assert_eq!(answer(24, &mut buffer(&[])), 2);
 }
 
 #[test]
@@ -137,7 +137,7 @@ fn bytes_that_are_not_read() {
     let places = (0..4).chain(8..16).chain(18..20);
     for at in places {
         for value in 0..=255 {
-            for (control, expected) in [(21, 0), (2, 2)] {
+            for (control, expected) in [(21, 0), (24, 2)] {
                 let mut sent = buffer(&SET_PHY_INFO);
                 sent[at] = value;
                 assert_eq!(answer(control, &mut sent), expected, "byte {at} {value}");

@@ -23,8 +23,12 @@ fn unknown_codes() {
     let unknown = (0..300).filter(|code| !known(code));
     for code in unknown.chain(others).chain(IOCTL) {
         assert_eq!(answer(code, &mut buffer(&[0; 2052])), 2, "{code:x}");
-        // also where no structure would fit
-        assert_eq!(answer(code, &mut buffer(&[])), 2, "{code:x}");
+        // also where no structure would fit, and whatever Length is
+        for length in [0, 12, 19, 20, 21, u32::MAX] {
+            let mut sent = buffer(&[]);
+            sent[4..8].copy_from_slice(&length.to_le_bytes());
+            assert_eq!(answer(code, &mut sent), 2, "{code:x}");
+        }
     }
 }
 

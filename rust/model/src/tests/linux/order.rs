@@ -26,7 +26,7 @@ const FAULTS: [Fault; 7] = [
     (|sent| sent.medium.push(0), Answer::Call(106)),
     (|sent| sent.buffer.truncate(19), Answer::Call(100)),
     (|sent| sent.buffer[16] = 2, Answer::Code(3)),
-    (|sent| sent.control = 2, Answer::Code(2)),
+    (|sent| sent.control = 24, Answer::Code(2)),
     (|sent| sent.buffer[4] -= 1, Answer::Code(3)),
     (|sent| sent.buffer[20] = 5, Answer::Code(2002)),
 ];
