@@ -5,6 +5,7 @@ use differential::case::Case;
 use differential::compare::compare;
 use differential::names::call;
 use differential::need;
+use differential::run::Written;
 use differential::side::Side;
 use std::time::{Duration, Instant};
 
@@ -64,11 +65,12 @@ impl Copies {
 /// The measured part: an opening and the requests of a session.
 #[inline(never)]
 pub fn measured(side: Side, case: &Case, copies: &mut Copies) -> usize {
-    let written = (
-        &mut copies.medium[..],
-        &mut copies.session[..],
-        &mut copies.record[..],
-    );
+    let written = Written {
+        framing: case.framing,
+        medium: &mut copies.medium,
+        session: &mut copies.session,
+        record: &mut copies.record,
+    };
     side.run_in_place(&case.text, &case.file, written)
 }
 

@@ -6,7 +6,7 @@ use differential::case::Case;
 use differential::names::{ata, code, device, phy, ENTITY, SECTORS};
 use differential::random::Random;
 use differential::request::passthrough::Passthrough;
-use differential::request::{self, fis};
+use differential::request::{first, fis, Request};
 
 #[derive(Clone, Copy, PartialEq, Eq)]
 pub enum Kind {
@@ -47,7 +47,7 @@ pub fn case(kind: Kind, p: usize, a: usize, requests: usize) -> Case {
     let random = &mut Random::new(7);
     let adapter = connected(random, p, a);
     let count = if kind == Kind::Opening { 0 } else { requests };
-    let list: Vec<Vec<u8>> = (0..count)
+    let list: Vec<Request> = (0..count)
         .map(|_| granted(random, &adapter, kind))
         .collect();
     let medium = random.bytes(adapter.medium_length());
@@ -76,10 +76,10 @@ fn connect(random: &mut Random, phy: &mut Phy) {
 }
 
 /// A request that is granted; of the two address codes, only if there are rows.
-fn granted(random: &mut Random, adapter: &Adapter, kind: Kind) -> Vec<u8> {
+fn granted(random: &mut Random, adapter: &Adapter, kind: Kind) -> Request {
     match kind {
         Kind::Code(code::SET_PHY_INFO) => set_phy_info(random, adapter),
-        Kind::Code(control) => request::sound(random, adapter, control),
+        Kind::Code(control) => first::sound(random, adapter, control),
         Kind::Command(command) => passthrough(random, adapter, command),
         Kind::Mixed | Kind::Opening => {
             let one = SESSIONS[random.within(1, SESSIONS.len() - 2)].1;
@@ -89,21 +89,21 @@ fn granted(random: &mut Random, adapter: &Adapter, kind: Kind) -> Vec<u8> {
 }
 
 /// Enables a phy with rates that keep it connected.
-fn set_phy_info(random: &mut Random, adapter: &Adapter) -> Vec<u8> {
+fn set_phy_info(random: &mut Random, adapter: &Adapter) -> Request {
     let phy = random.below(adapter.phys.len()) as u8;
     let (minimum, maximum) = random.pick(&[(8, 9), (0, 9), (8, 0), (0, 0), (8, 8)]);
     let class = random.below(4) as u8;
-    request::buffer(
+    first::of_body(
         code::SET_PHY_INFO,
         &[phy, 0, minimum, maximum, class, 0, 0, 0],
     )
 }
 
 /// One sector, anywhere on the disk, at a rate that every link has.
-fn passthrough(random: &mut Random, adapter: &Adapter, command: u8) -> Vec<u8> {
+fn passthrough(random: &mut Random, adapter: &Adapter, command: u8) -> Request {
     let lba = random.below(SECTORS) as u32;
     let fis = fis::command(random, command, lba, 1);
     let mut passthrough = Passthrough::of_fis(random, adapter, fis);
     passthrough.rate = 8;
-    request::buffer(code::STP_PASSTHRU, &passthrough.body(random))
+    first::of_body(code::STP_PASSTHRU, &passthrough.body(random))
 }

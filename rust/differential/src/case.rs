@@ -1,7 +1,8 @@
 //! A case: everything that a run gets, and everything that it gives.
 
 use crate::names::record;
-use crate::session;
+use crate::request::{Header, Request};
+use crate::session::Framing;
 use crate::wire::word;
 
 #[derive(Clone)]
@@ -10,6 +11,7 @@ pub struct Case {
     pub text: Vec<u8>,
     pub file: Vec<u8>,
     pub medium: Vec<u8>,
+    pub framing: Framing,
     pub session: Vec<u8>,
     /// The record as it is before.
     pub record: Vec<u8>,
@@ -28,10 +30,21 @@ pub struct Outcome {
 
 /// A request as sent, and its reply: the call's number, the recorded return code and the whole buffer.
 pub struct Exchange<'a> {
+    pub header: Header,
     pub request: &'a [u8],
     pub number: u32,
     pub code: u32,
     pub reply: &'a [u8],
+}
+
+impl Exchange<'_> {
+    /// The request, to be sent again.
+    pub fn sent(&self) -> Request {
+        Request {
+            header: self.header,
+            buffer: self.request.to_vec(),
+        }
+    }
 }
 
 impl Case {
@@ -41,27 +54,30 @@ impl Case {
         text: &[u8],
         file: &[u8],
         medium: &[u8],
-        requests: &[Vec<u8>],
+        requests: &[Request],
     ) -> Self {
+        let framing = Framing::of(requests);
         Case {
             seed,
             text: text.to_vec(),
             file: file.to_vec(),
             medium: medium.to_vec(),
-            session: session::join(requests),
+            framing,
+            session: framing.join(requests),
             record: vec![0x5A; record::SIZE * requests.len()],
         }
     }
 
     /// The requests that were handled, with their replies.
     pub fn exchanges<'a>(&'a self, outcome: &'a Outcome) -> Vec<Exchange<'a>> {
-        let requests = session::split(&self.session, outcome.handled);
-        let replies = session::split(&outcome.session, outcome.handled);
+        let requests = self.framing.split(&self.session, outcome.handled);
+        let replies = self.framing.split(&outcome.session, outcome.handled);
         let pairs = requests.into_iter().zip(replies);
         let lines = outcome.record.chunks_exact(record::SIZE);
         pairs
             .zip(lines)
-            .map(|((request, reply), line)| Exchange {
+            .map(|(((header, request), (_, reply)), line)| Exchange {
+                header,
                 request,
                 number: word(line, record::NUMBER),
                 code: word(line, record::CODE),

@@ -1,9 +1,10 @@
-//! One case through both implementations, by the run and by the two calls; every number and every byte has to be equal.
+//! One case through both implementations, by the run and by the calls; every number and every byte has to be equal.
 
 use crate::case::{Case, Exchange, Outcome};
 use crate::names::state;
 use crate::pair::Pair;
 use crate::random::Random;
+use crate::request::Header;
 use crate::side::{return_code, Side};
 use crate::wire::equal_bytes;
 use std::fmt;
@@ -45,7 +46,7 @@ fn equal_runs(case: &Case, library: &Outcome, model: &Outcome) -> Result<(), Str
     equal("requests handled", library.handled, model.handled)?;
     let exchanges = case.exchanges(library).into_iter();
     for (n, (one, other)) in exchanges.zip(case.exchanges(model)).enumerate() {
-        equal_replies(&one, &other).map_err(|what| format!("{}: {what}", name(n, one.request)))?;
+        equal_replies(&one, &other).map_err(|what| format!("{}: {what}", name(n, &one)))?;
     }
     equal_bytes("session", &library.session, &model.session)?;
     equal_bytes("record", &library.record, &model.record)?;
@@ -65,7 +66,7 @@ fn equal<T: PartialEq + fmt::Display>(name: &str, library: T, model: T) -> Resul
     Err(format!("{name}: library {library}, model {model}"))
 }
 
-/// The same opening and requests by the two calls, one at a time, over a state of other bytes: after each both sides are equal, and the
+/// The same opening and requests by the calls, one at a time, over a state of other bytes: after each both sides are equal, and the
 /// replies, the state and the medium are those of the run, which both sides gave.
 fn by_calls(case: &Case, run: &Outcome) -> Result<(), String> {
     let before = Random::new(case.seed).bytes(state::SIZE);
@@ -75,8 +76,7 @@ fn by_calls(case: &Case, run: &Outcome) -> Result<(), String> {
         .map_err(|what| format!("opening by call: {what}"))?;
     equal("opening by call and in the run", number, run.opening)?;
     for (n, in_run) in case.exchanges(run).iter().enumerate() {
-        call(&mut pair, in_run)
-            .map_err(|what| format!("{}, by call: {what}", name(n, in_run.request)))?;
+        call(&mut pair, in_run).map_err(|what| format!("{}, by call: {what}", name(n, in_run)))?;
     }
     let state = run.state.as_deref().unwrap_or_default();
     equal_bytes("state by calls and of the run", pair.state(), state)?;
@@ -84,27 +84,34 @@ fn by_calls(case: &Case, run: &Outcome) -> Result<(), String> {
 }
 
 fn call(pair: &mut Pair, in_run: &Exchange) -> Result<(), String> {
-    let reply = pair.request(in_run.request)?;
+    let header = in_run.header;
+    let reply = pair.request(&in_run.sent())?;
     let by_call = Exchange {
+        header,
         request: in_run.request,
         number: reply.number,
-        code: return_code(reply.number, &reply.buffer),
+        code: return_code(reply.number, header, &reply.buffer),
         reply: &reply.buffer,
     };
     equal_replies(&by_call, in_run).map_err(|what| format!("not as in the run: {what}"))
 }
 
 /// A request's number, its header and the first bytes of its body, to find it again.
-fn name(n: usize, request: &[u8]) -> String {
-    let shown: Vec<String> = request
+fn name(n: usize, exchange: &Exchange) -> String {
+    let kind = match exchange.header {
+        Header::First => String::new(),
+        Header::Linux { control } => format!("Linux, code {control}, "),
+    };
+    let shown: Vec<String> = exchange
+        .request
         .iter()
         .take(72)
         .map(|byte| format!("{byte:02X}"))
         .collect();
     format!(
-        "request {} ({} bytes: {})",
+        "request {} ({kind}{} bytes: {})",
         n + 1,
-        request.len(),
+        exchange.request.len(),
         shown.join("")
     )
 }

@@ -6,11 +6,11 @@ use crate::case::Case;
 use crate::medium;
 use crate::names::record;
 use crate::random::Random;
-use crate::request;
-use crate::session;
+use crate::request::{self, Request};
+use crate::session::{end, Framing};
 use crate::text::{self, FULL, LIMITED, NONE, RESTRICTED};
 
-/// An opening: what the two calls start from.
+/// An opening: what the calls start from.
 pub struct Opening {
     pub text: Vec<u8>,
     pub file: Vec<u8>,
@@ -65,13 +65,27 @@ fn damaged_file(random: &mut Random, adapter: &Adapter) -> Vec<u8> {
     }
 }
 
-/// A list of requests for an adapter.
-pub fn requests(random: &mut Random, adapter: &Adapter, count: usize) -> Vec<Vec<u8>> {
-    (0..count).map(|_| request::any(random, adapter)).collect()
+/// A list of requests for an adapter, with either header.
+pub fn requests(random: &mut Random, adapter: &Adapter, count: usize) -> Vec<Request> {
+    requests_of(random, adapter, count, Framing::Both)
+}
+
+/// A list of requests that a session of this framing may hold.
+pub fn requests_of(
+    random: &mut Random,
+    adapter: &Adapter,
+    count: usize,
+    framing: Framing,
+) -> Vec<Request> {
+    let any = match framing {
+        Framing::First => request::first::any,
+        Framing::Both => request::any,
+    };
+    (0..count).map(|_| any(random, adapter)).collect()
 }
 
 /// A case: an opening, which is damaged one time in eight, a session of up to so many requests, with any end, and a record.
-pub fn case(seed: u64, most: usize) -> Case {
+pub fn case(seed: u64, most: usize, framing: Framing) -> Case {
     let random = &mut Random::new(seed);
     let adapter = Adapter::sound(random);
     let opening = if random.one_in(8) {
@@ -80,14 +94,15 @@ pub fn case(seed: u64, most: usize) -> Case {
         sound_opening(random, &adapter)
     };
     let count = random.within(0, most);
-    let mut session = session::join(&requests(random, &adapter, count));
-    session.extend(session::end(random));
+    let mut session = framing.join(&requests_of(random, &adapter, count, framing));
+    session.extend(end::any(random, framing));
     let record = record_length(random, count);
     Case {
         seed,
         text: opening.text,
         file: opening.file,
         medium: opening.medium,
+        framing,
         session,
         record: random.bytes(record),
     }

@@ -1,9 +1,9 @@
 //! "The last writer": by the file, the medium at the start, the requests as sent and their replies alone, what every sector and
-//! every programmed rate is after a run.
+//! every programmed rate is after a run. A request and its reply are read by the places of their header.
 
 use crate::case::{Case, Exchange, Outcome};
 use crate::names::{
-    ata, call, code, file, header, phy, set_phy_info as at, state, stp, DISK, NOT_GIVEN, SECTOR,
+    ata, call, code, file, phy, set_phy_info as at, state, stp, DISK, NOT_GIVEN, SECTOR,
 };
 use crate::need;
 use crate::request::fis;
@@ -26,7 +26,7 @@ impl Written {
                 .collect(),
         };
         for exchange in exchanges.iter().filter(|exchange| need::granted(exchange)) {
-            match need::control(exchange.request) {
+            match exchange.header.control(exchange.request) {
                 code::STP_PASSTHRU => written.passthrough(file, exchange),
                 code::SET_PHY_INFO => written.set_phy_info(exchange),
                 _ => {}
@@ -36,9 +36,9 @@ impl Written {
     }
 
     fn passthrough(&mut self, file: &[u8], exchange: &Exchange) {
-        let body = &exchange.request[header::SIZE..];
+        let body = exchange.header.body(exchange.request);
         let command = &body[stp::COMMAND_FIS..stp::FLAGS];
-        let status = exchange.reply[header::SIZE + stp::STATUS_FIS + fis::STATUS];
+        let status = exchange.header.body(exchange.reply)[stp::STATUS_FIS + fis::STATUS];
         if command[fis::COMMAND] != ata::WRITE_SECTORS || status != ata::STATUS_GOOD {
             return;
         }
@@ -48,7 +48,7 @@ impl Written {
     }
 
     fn set_phy_info(&mut self, exchange: &Exchange) {
-        let body = &exchange.request[header::SIZE..];
+        let body = exchange.header.body(exchange.request);
         let rates = &mut self.rates[usize::from(body[at::PHY])];
         if body[at::MINIMUM] != 0 {
             rates.0 = body[at::MINIMUM];

@@ -13,6 +13,8 @@ pub mod need;
 pub mod pair;
 pub mod random;
 pub mod request;
+pub mod run;
+pub mod sameness;
 pub mod session;
 pub mod side;
 pub mod state;

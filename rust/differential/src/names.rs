@@ -1,10 +1,11 @@
-//! Numbers and offsets: the model's, the line of the library's record, and what the comparison has besides.
+//! Numbers and offsets: the model's, the library's frames and lines of a session, and what the comparison has besides.
 
-pub use library::record;
-pub use model::codes::{ata, device, fis_type, rate, status, NOT_GIVEN};
+pub use library::{frame, record};
+pub use model::codes::{ata, device, direction, fis_type, rate, status, NOT_GIVEN};
 pub use model::layout::{
-    device_address, file, fis, header, link_errors, phy_info, row, sata_signature, scsi_address,
-    set_phy_info, state, stp, DISK, DRIVER_INFO, ENTITY, MAX_PHYS, MAX_ROWS, SECTOR, SECTORS,
+    device_address, file, fis, header, link_errors, linux_header, phy_info, row, sata_signature,
+    scsi_address, set_phy_info, state, stp, DISK, DRIVER_INFO, ENTITY, MAX_PHYS, MAX_ROWS, SECTOR,
+    SECTORS,
 };
 
 /// The call's numbers.

@@ -1,8 +1,9 @@
 //! Which requests document 01 calls denied, and which granted.
 
 use crate::case::Exchange;
-use crate::names::{body_size, call, code, header, signature, status, stp};
-use crate::request::fis;
+use crate::names::direction::{DATA_READ, DATA_WRITE};
+use crate::names::{body_size, call, code, header as first, linux_header, signature, status, stp};
+use crate::request::{fis, Header};
 use crate::text::{FULL, LIMITED, RESTRICTED};
 use crate::wire::word;
 
@@ -24,41 +25,63 @@ fn of_command(command: u8) -> u8 {
     }
 }
 
-/// The lowest level that may do a request, whose body is whole.
-fn of_request(request: &[u8]) -> u8 {
-    match control(request) {
+/// The lowest level that may do a request with the first header, whose body is whole.
+fn of_request(control: u32, body: &[u8]) -> u8 {
+    match control {
         code::SET_PHY_INFO => FULL,
-        code::STP_PASSTHRU => of_command(request[header::SIZE + stp::COMMAND_FIS + fis::COMMAND]),
+        code::STP_PASSTHRU => of_command(body[stp::COMMAND_FIS + fis::COMMAND]),
         _ => RESTRICTED,
     }
 }
 
-/// Whether a request passes all checks before the level and needs more than this one, after an accepted opening.
-pub fn denied(level: u8, request: &[u8]) -> bool {
-    passes_header(request) && of_request(request) > level
+/// Whether a request passes all checks before the level and needs more than this one, after an accepted opening. Those with the Linux
+/// header "are never denied".
+pub fn denied(level: u8, header: Header, request: &[u8]) -> bool {
+    header == Header::First
+        && passes_header(header, request)
+        && of_request(header.control(request), header.body(request)) > level
 }
 
-pub fn control(request: &[u8]) -> u32 {
-    word(request, header::CONTROL_CODE)
+/// Whether a request passes its header's checks: all that come before the level.
+pub fn passes_header(header: Header, request: &[u8]) -> bool {
+    request.len() >= header.size()
+        && passes_fields(header, request)
+        && passes_length(header, request)
 }
 
-fn passes_header(request: &[u8]) -> bool {
-    request.len() >= header::SIZE
-        && word(request, header::HEADER_LENGTH) as usize == header::SIZE
-        && body_size(control(request)).is_some_and(|size| passes_length(request, size))
-        && request[header::SIGNATURE..header::TIMEOUT] == signature(control(request))
+fn passes_fields(header: Header, request: &[u8]) -> bool {
+    match header {
+        Header::First => {
+            let named = &request[first::SIGNATURE..first::TIMEOUT];
+            word(request, first::HEADER_LENGTH) as usize == first::SIZE
+                && *named == signature(header.control(request))
+        }
+        Header::Linux { .. } => {
+            let direction = &request[linux_header::DIRECTION..linux_header::IGNORED];
+            [DATA_READ, DATA_WRITE]
+                .map(u16::to_le_bytes)
+                .iter()
+                .any(|known| direction == known)
+        }
+    }
 }
 
-fn passes_length(request: &[u8], size: usize) -> bool {
-    let length = word(request, header::LENGTH) as usize;
-    let inside = length <= request.len() - header::SIZE;
-    inside && length >= size && length >= size + data_length(request)
+/// Whether the code is known, and Length takes in its structure and data and is inside the buffer.
+fn passes_length(header: Header, request: &[u8]) -> bool {
+    let (control, body) = (header.control(request), header.body(request));
+    let Some(size) = body_size(control) else {
+        return false;
+    };
+    let length = word(request, header.length()) as usize;
+    let (counted, inside) = (header.counted(), body.len());
+    let whole = length >= counted + size && length <= counted + inside;
+    whole && length >= counted + size + data_length(control, body)
 }
 
 /// uDataLength of code 25, whose structure is inside the buffer; 0 of the others.
-fn data_length(request: &[u8]) -> usize {
-    if control(request) == code::STP_PASSTHRU {
-        word(request, header::SIZE + stp::DATA_LENGTH) as usize
+fn data_length(control: u32, body: &[u8]) -> usize {
+    if control == code::STP_PASSTHRU {
+        word(body, stp::DATA_LENGTH) as usize
     } else {
         0
     }

@@ -1,7 +1,8 @@
-//! The two calls on both implementations at once: after each call the number and every byte of state, medium and buffer have to
+//! The calls on both implementations at once: after each call the number and every byte of state, medium and buffer have to
 //! be equal.
 
 use crate::names::call;
+use crate::request::Request;
 use crate::side::Side;
 use crate::wire::{equal_bytes, first_difference};
 
@@ -60,20 +61,21 @@ impl Pair {
     }
 
     /// One request. With a number other than 0, state and buffer are also held against what they were.
-    pub fn request(&mut self, request: &[u8]) -> Result<Reply, String> {
+    pub fn request(&mut self, request: &Request) -> Result<Reply, String> {
         let before = self.library.state.clone();
         let [library, model] = [&mut self.library, &mut self.model].map(|lent| {
-            let mut buffer = request.to_vec();
+            let mut buffer = request.buffer.clone();
+            let (state, medium) = (&mut lent.state, &mut lent.medium);
             let number = lent
                 .side
-                .request(&mut lent.state, &mut lent.medium, &mut buffer);
+                .request(request.header, state, medium, &mut buffer);
             Reply { number, buffer }
         });
         equal_numbers(library.number, model.number)?;
         equal_bytes("buffer", &library.buffer, &model.buffer)?;
         self.equal_bytes()?;
         if library.number != call::DONE {
-            untouched("buffer", request, &library.buffer)?;
+            untouched("buffer", &request.buffer, &library.buffer)?;
             untouched("state", &before, &self.library.state)?;
         }
         Ok(library)

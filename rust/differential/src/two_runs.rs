@@ -2,10 +2,12 @@
 //! the states but the level are then equal.
 
 use crate::case::{Case, Exchange, Outcome};
-use crate::names::{call, header, state, status};
+use crate::names::{call, state, status};
 use crate::need;
 use crate::random::Random;
-use crate::side::Side;
+use crate::request::{Header, Request};
+use crate::run;
+use crate::side::{return_code, Side};
 use crate::text;
 use crate::wire::put_word;
 
@@ -29,7 +31,7 @@ pub struct Start<'a> {
     pub seed: u64,
     pub file: &'a [u8],
     pub medium: &'a [u8],
-    pub requests: &'a [Vec<u8>],
+    pub requests: &'a [Request],
 }
 
 /// A run of one side, with its outcome.
@@ -39,7 +41,7 @@ struct Run {
 }
 
 impl Run {
-    fn of(side: Side, start: &Start, level: &Level, list: &[Vec<u8>]) -> Result<Self, String> {
+    fn of(side: Side, start: &Start, level: &Level, list: &[Request]) -> Result<Self, String> {
         let case = Case::of_requests(start.seed, &level.text, start.file, start.medium, list);
         let outcome = side.run(&case);
         if outcome.handled != list.len() {
@@ -63,10 +65,10 @@ pub fn check(side: Side, start: &Start, low: &Level, high: &Level) -> Result<usi
     let answers = lower.exchanges();
     let (denied, others): (Vec<&Exchange>, Vec<&Exchange>) = answers
         .iter()
-        .partition(|one| lower.accepted() && need::denied(low.number, one.request));
+        .partition(|one| lower.accepted() && need::denied(low.number, one.header, one.request));
     denied.iter().try_for_each(|one| only_return_code(one))?;
 
-    let list: Vec<Vec<u8>> = others.iter().map(|one| one.request.to_vec()).collect();
+    let list: Vec<Request> = others.iter().map(|one| one.sent()).collect();
     let higher = Run::of(side, start, high, &list)?;
     for (n, (one, other)) in others.iter().zip(higher.exchanges()).enumerate() {
         if one.number != other.number || one.code != other.code || one.reply != other.reply {
@@ -98,14 +100,15 @@ fn but_level(bytes: &[u8]) -> &[u8] {
 /// A denied request is answered with 4, and nothing else of its buffer changes.
 pub fn only_return_code(exchange: &Exchange) -> Result<(), String> {
     let mut expected = exchange.request.to_vec();
-    put_word(&mut expected, header::RETURN_CODE, status::WRITE_ATTEMPTED);
+    let place = exchange.header.return_code();
+    put_word(&mut expected, place, status::WRITE_ATTEMPTED);
     let right = exchange.number == call::DONE && exchange.reply == expected;
     right
         .then_some(())
         .ok_or_else(|| "a denied request gets more than its return code".to_string())
 }
 
-/// A run by the two calls, as far as it has come.
+/// A run by the calls, as far as it has come.
 struct Caller {
     side: Side,
     opening: u32,
@@ -125,11 +128,10 @@ impl Caller {
         }
     }
 
-    fn request(&mut self, request: &[u8]) -> (u32, Vec<u8>) {
-        let mut reply = request.to_vec();
-        let number = self
-            .side
-            .request(&mut self.state, &mut self.medium, &mut reply);
+    fn request(&mut self, request: &Request) -> (u32, Vec<u8>) {
+        let mut reply = request.buffer.clone();
+        let (state, medium) = (&mut self.state, &mut self.medium);
+        let number = self.side.request(request.header, state, medium, &mut reply);
         (number, reply)
     }
 
@@ -144,14 +146,19 @@ impl Caller {
     }
 }
 
-/// The same claim by the two calls, after each request and not at the end alone; and neither run's level changes.
+/// The same claim by the calls, after each request and not at the end alone; 4 is what denied requests get and no others, and neither run's
+/// level changes.
 pub fn check_each(side: Side, start: &Start, low: &Level, high: &Level) -> Result<(), String> {
     let mut lower = Caller::open(side, start, low);
     let mut higher = Caller::open(side, start, high);
     let accepted = lower.opening == call::DONE;
     for (n, request) in start.requests.iter().enumerate() {
         let reply = lower.request(request);
-        let denied = accepted && need::denied(low.number, request);
+        let denied = accepted && need::denied(low.number, request.header, &request.buffer);
+        let code = return_code(reply.0, request.header, &reply.1);
+        if denied != (code == status::WRITE_ATTEMPTED) {
+            return Err(format!("request {}: 4 is not where it is denied", n + 1));
+        }
         if !denied && higher.request(request) != reply {
             return Err(format!("request {}: the replies differ", n + 1));
         }
@@ -171,11 +178,12 @@ pub fn check_denied(start: &Start, level: &Level) -> Result<(), String> {
     let (number, mut state) = model::open(&level.text, start.file, start.medium);
     let mut medium = start.medium.to_vec();
     for (n, request) in start.requests.iter().enumerate() {
-        let denied = number == call::DONE && need::denied(level.number, request);
-        if model::denied(&state, &medium, request) != denied {
+        let (header, buffer) = (request.header, &request.buffer);
+        let denied = number == call::DONE && need::denied(level.number, header, buffer);
+        if header == Header::First && model::denied(&state, &medium, buffer) != denied {
             return Err(format!("request {}: the model's denied", n + 1));
         }
-        model::request(&mut state, &mut medium, &mut request.clone());
+        run::request(header, &mut state, &mut medium, &mut buffer.clone());
     }
     Ok(())
 }

@@ -1,9 +1,12 @@
-//! "Two runs and the last writer" of document 01, on both implementations, the library's by its run and by its calls.
+//! "Two runs and the last writer" of document 01, on both implementations, the library's by its runs and by its calls. The lists are of the
+//! first header alone, and of both.
 
 use differential::adapter::Adapter;
 use differential::case::Case;
 use differential::names::{call, state};
 use differential::random::Random;
+use differential::request::{any_code, first, Request};
+use differential::session::Framing;
 use differential::side::{CALLS, SIDES};
 use differential::two_runs::{check, check_denied, check_each, only_return_code, Level, Start};
 use differential::{generate, last_writer, text};
@@ -27,7 +30,7 @@ fn file_and_medium(random: &mut Random, adapter: &Adapter) -> (Vec<u8>, Vec<u8>)
 }
 
 /// The claim for a pair of levels, on every side; gives the number of denied requests.
-fn two_runs(seed: u64, low: u8, high: u8, count: usize) -> usize {
+fn two_runs(seed: u64, framing: Framing, low: u8, high: u8, count: usize) -> usize {
     let random = &mut Random::new(seed);
     let adapter = Adapter::sound(random);
     let (file, medium) = file_and_medium(random, &adapter);
@@ -35,7 +38,7 @@ fn two_runs(seed: u64, low: u8, high: u8, count: usize) -> usize {
         seed,
         file: &file,
         medium: &medium,
-        requests: &generate::requests(random, &adapter, count),
+        requests: &generate::requests_of(random, &adapter, count, framing),
     };
     let low = Level::of_number(random, low);
     let high = Level::of_number(random, high);
@@ -52,15 +55,14 @@ fn two_runs(seed: u64, low: u8, high: u8, count: usize) -> usize {
     denied[0]
 }
 
-#[test]
-fn two_runs_of_each_pair_of_levels() {
+fn two_runs_of_each_pair_of_levels(framing: Framing) {
     assert_eq!(pairs().len(), 10);
     for (low, high) in pairs() {
         let seeds = (0..12).map(|round| 1000 * u64::from(4 * low + high) + round);
         let counts = [0, 1, 40, 120].into_iter().cycle();
         let denied: usize = seeds
             .zip(counts)
-            .map(|(seed, count)| two_runs(seed, low, high, count))
+            .map(|(seed, count)| two_runs(seed, framing, low, high, count))
             .sum();
         assert_eq!(
             denied > 50,
@@ -70,17 +72,27 @@ fn two_runs_of_each_pair_of_levels() {
     }
 }
 
-/// Level None denies every sound request: nothing but return codes changes, on every side.
+#[test]
+fn two_runs_of_the_first_header() {
+    two_runs_of_each_pair_of_levels(Framing::First);
+}
+
+#[test]
+fn two_runs_of_both_headers() {
+    two_runs_of_each_pair_of_levels(Framing::Both);
+}
+
+/// Level None denies every sound request with the first header: nothing but return codes changes, on every side.
 #[test]
 fn denied_requests_change_only_their_return_code() {
     for seed in 0..40 {
         let random = &mut Random::new(seed);
         let adapter = Adapter::sound(random);
         let medium = random.bytes(adapter.medium_length());
-        let requests: Vec<Vec<u8>> = (0..40)
+        let requests: Vec<Request> = (0..40)
             .map(|_| {
-                let control = differential::request::any_code(random);
-                differential::request::sound(random, &adapter, control)
+                let control = any_code(random);
+                first::sound(random, &adapter, control)
             })
             .collect();
         let case = Case::of_requests(seed, b"CSMI=None;", &adapter.file(), &medium, &requests);
@@ -100,8 +112,7 @@ fn denied_requests_change_only_their_return_code() {
     }
 }
 
-#[test]
-fn the_last_writer_of_each_sector_and_rate() {
+fn the_last_writer_of_each_sector_and_rate(framing: Framing) {
     let mut phys = 0;
     let mut written = 0;
     for seed in 0..240 {
@@ -110,7 +121,7 @@ fn the_last_writer_of_each_sector_and_rate() {
         let (file, medium) = file_and_medium(random, &adapter);
         let number = text::LEVELS[if seed % 8 < 4 { seed as usize % 4 } else { 3 }];
         let text = text::of_level(random, number);
-        let requests = generate::requests(random, &adapter, 100);
+        let requests = generate::requests_of(random, &adapter, 100, framing);
         let case = Case::of_requests(seed, &text, &file, &medium, &requests);
         for side in SIDES {
             let outcome = side.run(&case);
@@ -121,6 +132,16 @@ fn the_last_writer_of_each_sector_and_rate() {
     }
     assert!(phys > 2000, "the rates of only {phys} phys were compared");
     assert!(written > 300, "only {written} runs wrote a sector");
+}
+
+#[test]
+fn the_last_writer_by_the_first_header() {
+    the_last_writer_of_each_sector_and_rate(Framing::First);
+}
+
+#[test]
+fn the_last_writer_by_both_headers() {
+    the_last_writer_of_each_sector_and_rate(Framing::Both);
 }
 
 #[test]

@@ -1,4 +1,4 @@
-//! Sessions through both implementations, by the run and by the two calls: every number, every return code and every byte.
+//! Sessions through both implementations, by the runs and by the calls: every number, every return code and every byte.
 
 use differential::adapter::Adapter;
 use differential::case::{Case, Outcome};
@@ -9,8 +9,8 @@ use differential::names::{
 };
 use differential::random::Random;
 use differential::request::passthrough::Passthrough;
-use differential::request::{self, fis};
-use differential::session::{cut, join};
+use differential::request::{first, fis, linux, sound, Header, Request};
+use differential::session::{end::cut, Framing};
 use differential::wire::{put_word, word};
 use differential::{generate, names, need, text};
 use std::ops::Range;
@@ -20,19 +20,25 @@ fn agreed(case: &Case) -> Outcome {
     compare(case).unwrap_or_else(|difference| panic!("{difference}"))
 }
 
+/// A sound request of a code, with each header.
+const SOUND: [fn(&mut Random, &Adapter, u32) -> Request; 2] = [first::sound, linux::sound];
+
+/// A sound header of a code before a body, each.
+const OF_BODY: [fn(u32, &[u8]) -> Request; 2] = [first::of_body, linux::of_body];
+
 /// A case of sound requests at a level, one code after the other.
 fn sound_case(seed: u64, level: u8, count: usize) -> Case {
     let random = &mut Random::new(seed);
     let adapter = Adapter::of_counts(random, 4, 5);
-    let requests: Vec<Vec<u8>> = (0..count)
-        .map(|n| request::sound(random, &adapter, names::code::ALL[n % 8]))
+    let requests: Vec<Request> = (0..count)
+        .map(|n| first::sound(random, &adapter, names::code::ALL[n % 8]))
         .collect();
     let text = text::of_level(random, level);
     let medium = random.bytes(adapter.medium_length());
     Case::of_requests(seed, &text, &adapter.file(), &medium, &requests)
 }
 
-/// Every command at a level, once within the disk and once near an end.
+/// Every command at a level, with both headers, within the disk and near an end.
 fn every_command(seed: u64, level: u8) -> Case {
     let random = &mut Random::new(seed);
     let adapter = Adapter::of_counts(random, 6, 0);
@@ -41,7 +47,7 @@ fn every_command(seed: u64, level: u8) -> Case {
         for (lba, count) in [(3, 2), fis::edge(random)] {
             let fis = fis::command(random, command, lba, count);
             let body = Passthrough::of_fis(random, &adapter, fis).body(random);
-            requests.push(request::buffer(names::code::STP_PASSTHRU, &body));
+            requests.extend(OF_BODY.map(|of_body| of_body(names::code::STP_PASSTHRU, &body)));
         }
     }
     let text = text::of_level(random, level);
@@ -49,14 +55,16 @@ fn every_command(seed: u64, level: u8) -> Case {
     Case::of_requests(seed, &text, &adapter.file(), &medium, &requests)
 }
 
-/// Some 20,000 requests over more than a thousand adapters, texts and openings; each number and return code of document 01 is met, with
-/// each code that can give it, and none besides.
+/// Over 60,000 requests over thousands of adapters, texts and openings; each number and return code of the documents is met, with each
+/// code that can give it, with the Linux header at each level, and none besides.
 #[test]
 fn random_runs_agree_and_meet_everything() {
     let mut coverage = Coverage::default();
-    for seed in 0..1400 {
-        let case = generate::case(seed, 30);
-        coverage.count(&case, &agreed(&case));
+    for (framing, cases) in [(Framing::First, 1400), (Framing::Both, 2800)] {
+        for seed in 0..cases {
+            let case = generate::case(seed, 30, framing);
+            coverage.count(&case, &agreed(&case));
+        }
     }
     for level in text::LEVELS {
         for seed in 0..2 {
@@ -66,7 +74,7 @@ fn random_runs_agree_and_meet_everything() {
     }
     println!("{coverage}");
     assert!(
-        coverage.requests > 20_000,
+        coverage.requests > 60_000,
         "only {} requests",
         coverage.requests
     );
@@ -79,50 +87,54 @@ fn each_code_and_length_agrees() {
     let random = &mut Random::new(11);
     let adapter = Adapter::of_counts(random, 3, 4);
     for control in names::code::ALL {
-        let sound = request::sound(random, &adapter, control);
-        let lengths =
-            (0..sound.len().min(300)).chain([sound.len() - 1, sound.len(), sound.len() + 1]);
-        let requests: Vec<Vec<u8>> = lengths.map(|length| resized(&sound, length)).collect();
-        let medium = random.bytes(adapter.medium_length());
-        let case = Case::of_requests(
-            u64::from(control),
-            b"CSMI=Full;",
-            &adapter.file(),
-            &medium,
-            &requests,
-        );
-        let outcome = agreed(&case);
-        let exchanges = case.exchanges(&outcome);
-        assert_eq!(exchanges.len(), requests.len());
-        for (exchange, request) in exchanges.iter().zip(&requests) {
-            let short = request.len() < header::SIZE;
-            assert_eq!(
-                exchange.number,
-                if short {
-                    call::BUFFER_LENGTH
-                } else {
-                    call::DONE
-                }
-            );
-            let cut = !short && request.len() < sound.len();
-            assert!(!cut || exchange.code == status::INVALID_PARAMETER);
+        for sound in SOUND {
+            let sound = sound(random, &adapter, control);
+            each_length_agrees(random, &adapter, &sound);
         }
     }
 }
 
-fn resized(request: &[u8], length: usize) -> Vec<u8> {
-    let mut resized = request.to_vec();
-    resized.resize(length, 0x77);
+/// A request cut at each place of its first bytes, and one byte longer.
+fn each_length_agrees(random: &mut Random, adapter: &Adapter, sound: &Request) {
+    let whole = sound.buffer.len();
+    let lengths = (0..whole.min(300)).chain([whole - 1, whole, whole + 1]);
+    let requests: Vec<Request> = lengths.map(|length| resized(sound, length)).collect();
+    let medium = random.bytes(adapter.medium_length());
+    let case = Case::of_requests(0, b"CSMI=Full;", &adapter.file(), &medium, &requests);
+    let outcome = agreed(&case);
+    let exchanges = case.exchanges(&outcome);
+    assert_eq!(exchanges.len(), requests.len());
+    for (exchange, request) in exchanges.iter().zip(&requests) {
+        let short = request.is_short();
+        let number = if short {
+            call::BUFFER_LENGTH
+        } else {
+            call::DONE
+        };
+        assert_eq!(exchange.number, number);
+        let cut = !short && request.buffer.len() < whole;
+        assert!(!cut || exchange.code == status::INVALID_PARAMETER);
+    }
+}
+
+fn resized(request: &Request, length: usize) -> Request {
+    let mut resized = request.clone();
+    resized.buffer.resize(length, 0x77);
     resized
 }
 
 /// Each of these bytes of a request set to each value: both sides agree on all.
-fn every_value_agrees(random: &mut Random, adapter: &Adapter, sound: &[u8], places: Range<usize>) {
+fn every_value_agrees(
+    random: &mut Random,
+    adapter: &Adapter,
+    sound: &Request,
+    places: Range<usize>,
+) {
     let mut requests = Vec::new();
     for at in places {
         for change in 0..=255 {
-            let mut request = sound.to_vec();
-            request[at] ^= change;
+            let mut request = sound.clone();
+            request.buffer[at] ^= change;
             requests.push(request);
         }
     }
@@ -136,19 +148,20 @@ fn every_value_of_each_header_byte_agrees() {
     let random = &mut Random::new(12);
     let adapter = Adapter::of_counts(random, 2, 2);
     for control in names::code::ALL {
-        let sound = request::sound(random, &adapter, control);
-        every_value_agrees(random, &adapter, &sound, 0..header::SIZE);
+        for sound in SOUND {
+            let sound = sound(random, &adapter, control);
+            every_value_agrees(random, &adapter, &sound, 0..sound.header.size());
+        }
     }
 }
 
-/// A sound request of a code; of code 25, a write of one sector.
-fn small_request(random: &mut Random, adapter: &Adapter, control: u32) -> Vec<u8> {
+/// A sound body of a code; of code 25, a write of one sector.
+fn small_body(random: &mut Random, adapter: &Adapter, control: u32) -> Vec<u8> {
     if control != names::code::STP_PASSTHRU {
-        return request::sound(random, adapter, control);
+        return sound::body(random, adapter, control);
     }
     let fis = fis::command(random, ata::WRITE_SECTORS, 3, 1);
-    let body = Passthrough::of_fis(random, adapter, fis).body(random);
-    request::buffer(control, &body)
+    Passthrough::of_fis(random, adapter, fis).body(random)
 }
 
 #[test]
@@ -156,10 +169,14 @@ fn every_value_of_each_body_byte_agrees() {
     let random = &mut Random::new(13);
     let adapter = Adapter::of_counts(random, 5, 6);
     for control in names::code::ALL {
-        let sound = small_request(random, &adapter, control);
-        let end = sound.len().min(header::SIZE + stp::STATUS_FIS);
-        assert!(header::SIZE < end);
-        every_value_agrees(random, &adapter, &sound, header::SIZE..end);
+        let body = small_body(random, &adapter, control);
+        for of_body in OF_BODY {
+            let sound = of_body(control, &body);
+            let start = sound.header.size();
+            let end = sound.buffer.len().min(start + stp::STATUS_FIS);
+            assert!(start < end);
+            every_value_agrees(random, &adapter, &sound, start..end);
+        }
     }
 }
 
@@ -169,9 +186,9 @@ fn the_example_of_document_01() {
     let random = &mut Random::new(14);
     let adapter = Adapter::of_counts(random, 1, 0);
     let requests = [
-        request::sound(random, &adapter, names::code::DRIVER_INFO),
-        request::sound(random, &adapter, names::code::SET_PHY_INFO),
-        vec![0; 5],
+        first::sound(random, &adapter, names::code::DRIVER_INFO),
+        first::sound(random, &adapter, names::code::SET_PHY_INFO),
+        Request::first(vec![0; 5]),
     ];
     let medium = vec![0; adapter.medium_length()];
     let case = Case::of_requests(14, b"CSMI=Restricted;", &adapter.file(), &medium, &requests);
@@ -200,9 +217,9 @@ fn failed_link_resets_count_up_to_the_end() {
     (bytes[phy::NEGOTIATED], bytes[phy::HELD], bytes[phy::FIXED]) = (9, 0, 0);
     bytes[phy::SIGNATURE..phy::HELD].fill(0);
     put_word(bytes, phy::COUNTERS + PROBLEM, u32::MAX - 2);
-    let slow = request::buffer(names::code::SET_PHY_INFO, &[0, 0, 0, 8, 0, 0, 0, 0]);
-    let errors = request::buffer(names::code::LINK_ERRORS, &[0; link_errors::SIZE]);
-    let requests: Vec<Vec<u8>> = (0..4)
+    let slow = first::of_body(names::code::SET_PHY_INFO, &[0, 0, 0, 8, 0, 0, 0, 0]);
+    let errors = first::of_body(names::code::LINK_ERRORS, &[0; link_errors::SIZE]);
+    let requests: Vec<Request> = (0..4)
         .flat_map(|_| [slow.clone(), errors.clone()])
         .collect();
     let medium = vec![0; adapter.medium_length()];
@@ -222,7 +239,7 @@ fn a_row_of_zeros_is_found() {
     let mut adapter = Adapter::of_counts(&mut Random::new(16), 1, 3);
     adapter.rows[1] = [0; row::SIZE];
     let requests = [names::code::SCSI_ADDRESS, names::code::DEVICE_ADDRESS]
-        .map(|control| request::buffer(control, &[0; row::SIZE]));
+        .map(|control| first::of_body(control, &[0; row::SIZE]));
     let medium = vec![0; adapter.medium_length()];
     let case = Case::of_requests(16, b"", &adapter.file(), &medium, &requests);
     let outcome = agreed(&case);
@@ -267,7 +284,8 @@ fn lengths_near_the_limit_of_the_program() {
         for bytes in [0, 1, 28, longest - 1, longest, longest + 1] {
             let mut case = base.clone();
             case.record = vec![0x5A; 100];
-            case.session.extend(cut(length as u32, bytes));
+            let end = cut(Framing::First, Header::First, length as u32, bytes);
+            case.session.extend(end);
             case.session.extend([5, 0, 0, 0, 9]);
             let handled = agreed(&case).handled;
             let whole = length <= bytes + 5;
@@ -281,7 +299,7 @@ fn requests_of_any_length_are_handled() {
     let random = &mut Random::new(23);
     let adapter = Adapter::of_counts(random, 2, 0);
     let medium = vec![0; adapter.medium_length()];
-    let driver_info = request::sound(random, &adapter, names::code::DRIVER_INFO);
+    let driver_info = first::sound(random, &adapter, names::code::DRIVER_INFO);
     let lengths = [
         PROGRAM_LONGEST,
         PROGRAM_LONGEST + 1,
@@ -318,7 +336,7 @@ fn long_data_buffers_agree() {
             passthrough.data = random.bytes(data);
             passthrough.data_length = data as u32;
             let body = passthrough.body(random);
-            requests.push(request::buffer(names::code::STP_PASSTHRU, &body));
+            requests.extend(OF_BODY.map(|of_body| of_body(names::code::STP_PASSTHRU, &body)));
         }
     }
     let medium = random.bytes(adapter.medium_length());
@@ -326,8 +344,8 @@ fn long_data_buffers_agree() {
     let outcome = agreed(&case);
     let exchanges = case.exchanges(&outcome);
     let granted = exchanges.iter().filter(|one| need::granted(one)).count();
-    assert_eq!(exchanges.len(), 20);
-    assert!(granted > 10, "only {granted} were granted");
+    assert_eq!(exchanges.len(), 40);
+    assert!(granted > 20, "only {granted} were granted");
 }
 
 #[test]
@@ -349,11 +367,17 @@ fn nothing_at_all() {
         text: Vec::new(),
         file: Vec::new(),
         medium: Vec::new(),
+        framing: Framing::First,
         session: Vec::new(),
         record: Vec::new(),
     };
-    let outcome = agreed(&empty);
-    assert_eq!((outcome.opening, outcome.handled), (call::FILE_LENGTH, 0));
+    for framing in [Framing::First, Framing::Both] {
+        let outcome = agreed(&Case {
+            framing,
+            ..empty.clone()
+        });
+        assert_eq!((outcome.opening, outcome.handled), (call::FILE_LENGTH, 0));
+    }
 }
 
 #[test]
@@ -363,8 +387,8 @@ fn after_a_refused_opening_every_request_gets_107() {
         let random = &mut Random::new(seed);
         let adapter = Adapter::sound(random);
         let opening = generate::damaged_opening(random, &adapter);
-        let mut requests = generate::requests(random, &adapter, 20);
-        requests.push(Vec::new());
+        let mut requests = generate::requests(random, &adapter, 19);
+        requests.extend([Request::first(Vec::new()), Request::linux(1, Vec::new())]);
         let mut case = Case::of_requests(
             seed,
             &opening.text,
@@ -372,7 +396,9 @@ fn after_a_refused_opening_every_request_gets_107() {
             &opening.medium,
             &requests,
         );
-        case.session.extend(join(&[vec![1, 2, 3]])); // one more than the record has room for
+        // one more than the record has room for
+        let more = Framing::Both.join(&[Request::first(vec![1, 2, 3])]);
+        case.session.extend(more);
         let outcome = agreed(&case);
         if outcome.opening == call::DONE {
             continue;

@@ -3,9 +3,10 @@
 use differential::adapter::damage::{self, Damage};
 use differential::adapter::form::Form;
 use differential::adapter::Adapter;
-use differential::names::{call, header, row, state, status, DISK};
+use differential::names::{call, code, header, row, state, status, DISK, DRIVER_INFO};
 use differential::pair::{Pair, Reply};
 use differential::random::Random;
+use differential::request::{self, linux, Request};
 use differential::side::{Side, CALLS};
 use differential::state::reading::{driver_info, phy_info};
 use differential::state::{alter, made};
@@ -13,18 +14,18 @@ use differential::wire::word;
 use differential::{generate, medium, text};
 
 /// What both sides give.
-fn agreed(what: &str, pair: &mut Pair, request: &[u8]) -> Reply {
+fn agreed(what: &str, pair: &mut Pair, request: &Request) -> Reply {
     pair.request(request)
         .unwrap_or_else(|difference| panic!("{what}: {difference}"))
 }
 
 /// On each side alone: the number, and no byte of state, medium or buffer is touched.
-fn assert_refused(what: &str, number: u32, state: &[u8], medium: &[u8], buffer: &[u8]) {
+fn assert_refused(what: &str, number: u32, state: &[u8], medium: &[u8], request: &Request) {
     for side in CALLS {
-        let (mut s, mut m, mut b) = (state.to_vec(), medium.to_vec(), buffer.to_vec());
-        let given = side.request(&mut s, &mut m, &mut b);
+        let (mut s, mut m, mut b) = (state.to_vec(), medium.to_vec(), request.buffer.clone());
+        let given = side.request(request.header, &mut s, &mut m, &mut b);
         assert_eq!(given, number, "{what}, {side:?}");
-        let untouched = s == state && m == medium && b == buffer;
+        let untouched = s == state && m == medium && b == request.buffer;
         assert!(untouched, "{what}, {side:?}: something is touched");
     }
 }
@@ -40,11 +41,22 @@ fn broken(random: &mut Random, damage: &Damage, level: u8) -> (Adapter, Vec<u8>)
     panic!("no adapter has a place for: {}", damage.name);
 }
 
-/// Sound requests, faulty ones and short ones.
-fn some_requests(random: &mut Random, adapter: &Adapter) -> Vec<Vec<u8>> {
+/// Sound requests, faulty ones and short ones, with both headers.
+fn some_requests(random: &mut Random, adapter: &Adapter) -> Vec<Request> {
     let mut requests = generate::requests(random, adapter, 2);
-    requests.extend([driver_info(), vec![0; 27], Vec::new()]);
+    requests.extend([driver_info(), linux_driver_info(), linux_of(19)]);
+    requests.extend([vec![0; 27], Vec::new()].map(Request::first));
     requests
+}
+
+/// A code 1 with the Linux header.
+fn linux_driver_info() -> Request {
+    linux::of_body(code::DRIVER_INFO, &[0; DRIVER_INFO])
+}
+
+/// So many bytes with a Linux header, or a part of one.
+fn linux_of(length: usize) -> Request {
+    Request::linux(code::DRIVER_INFO, vec![0; length])
 }
 
 #[test]
@@ -94,7 +106,9 @@ fn every_level_over_3_is_107() {
     let medium = vec![0x11; adapter.medium_length()];
     for level in 4..=255 {
         let state = adapter.state(level);
-        assert_refused("level", call::STATE, &state, &medium, &driver_info());
+        for request in [driver_info(), linux_driver_info()] {
+            assert_refused("level", call::STATE, &state, &medium, &request);
+        }
     }
 }
 
@@ -102,7 +116,11 @@ fn every_level_over_3_is_107() {
 fn the_zero_state_is_107() {
     let zero = [0; state::SIZE];
     for medium in [vec![], vec![0; DISK]] {
-        for request in [driver_info(), Vec::new()] {
+        let short = [Request::first(Vec::new()), linux_of(0)];
+        for request in [driver_info(), linux_driver_info()]
+            .into_iter()
+            .chain(short)
+        {
             assert_refused("zero state", call::STATE, &zero, &medium, &request);
         }
     }
@@ -137,7 +155,9 @@ fn only_4785_bytes_are_a_state() {
         let mut state = adapter.state(text::FULL);
         state.resize(length, 0);
         if length != state::SIZE {
-            assert_refused("length", call::STATE, &state, &medium, &driver_info());
+            for request in [driver_info(), linux_driver_info()] {
+                assert_refused("length", call::STATE, &state, &medium, &request);
+            }
         }
     }
 }
@@ -169,7 +189,7 @@ fn a_medium_of_another_length_is_106() {
     }
 }
 
-/// "Checks, in order: state; medium length; buffer of 28 bytes".
+/// "Checks, in order: state; medium length; buffer of 28 bytes", of 20 with the Linux header.
 #[test]
 fn the_state_comes_before_the_medium_and_the_medium_before_the_buffer() {
     let random = &mut Random::new(7);
@@ -178,8 +198,9 @@ fn the_state_comes_before_the_medium_and_the_medium_before_the_buffer() {
         let wrong = medium::of_wrong_length(random, adapter.phys.len());
         let right = random.bytes(adapter.medium_length());
         let sound = adapter.state(text::FULL);
-        for length in [0, 1, 20, 24, 27] {
-            let short = random.bytes(length);
+        let first = [0, 1, 20, 24, 27].map(|length| Request::first(random.bytes(length)));
+        let linux = [0, 1, 8, 12, 19].map(|length| Request::linux(1, random.bytes(length)));
+        for short in first.into_iter().chain(linux) {
             assert_refused("all three", call::STATE, &state, &wrong, &short);
             assert_refused("state and buffer", call::STATE, &state, &right, &short);
             assert_refused("medium", call::MEDIUM_LENGTH, &sound, &wrong, &short);
@@ -214,7 +235,9 @@ fn any_two_rows_that_share_are_107() {
             let bytes = from + shared.start..from + shared.end;
             state.copy_within(bytes, state::row_at(one) + shared.start);
             let what = format!("rows {other} and {one}, bytes {shared:?}");
-            assert_refused(&what, call::STATE, &state, &medium, &[]);
+            for short in [Request::first(Vec::new()), linux_of(0)] {
+                assert_refused(&what, call::STATE, &state, &medium, &short);
+            }
         }
     }
 }
@@ -273,7 +296,7 @@ fn nothing_is_kept_between_the_calls() {
         .collect();
     for _ in 0..2000 {
         let (adapter, pair) = &mut adapters[random.below(6)];
-        let request = differential::request::any(random, adapter);
+        let request = request::any(random, adapter);
         agreed("in turn", pair, &request);
         if random.one_in(20) {
             let opening = generate::damaged_opening(random, adapter);
@@ -309,9 +332,10 @@ fn nothing_outside_the_arguments_is_touched() {
             &mut state[range],
         );
         for request in generate::requests(random, &adapter, 30) {
-            let mut buffer = guarded(&request);
+            let mut buffer = guarded(&request.buffer);
             let ranges = (inside(&state), inside(&medium), inside(&buffer));
             Side::Library.request(
+                request.header,
                 &mut state[ranges.0],
                 &mut medium[ranges.1],
                 &mut buffer[ranges.2],

@@ -4,6 +4,8 @@ use differential::adapter::Adapter;
 use differential::generate;
 use differential::names::call;
 use differential::random::Random;
+use differential::run;
+use differential::session::Framing;
 use differential::side::Side;
 
 /// Some 5,000 requests over 400 openings, refused ones too: every number and every byte.
@@ -11,7 +13,12 @@ use differential::side::Side;
 fn random_runs_agree_with_the_model() {
     let (mut requests, mut refused) = (0, 0);
     for seed in 0..400 {
-        let case = generate::case(seed, 30);
+        let framing = if seed % 2 == 0 {
+            Framing::First
+        } else {
+            Framing::Both
+        };
+        let case = generate::case(seed, 30, framing);
         let model = Side::Model.run(&case);
         assert!(Side::ModelTestedOnce.run(&case) == model, "seed {seed}");
         requests += model.handled;
@@ -33,19 +40,18 @@ fn states_agree_and_keep_the_rules() {
         let (mut other, mut medium) = (state.clone(), opening.medium);
         let mut other_medium = medium.clone();
         for request in generate::requests(random, &adapter, 100) {
-            let (mut reply, mut same) = (request.clone(), request);
-            let number = model::request(&mut state, &mut medium, &mut reply);
-            assert_eq!(
-                model::answer(&mut other, &mut other_medium, &mut same),
-                number
-            );
+            let header = request.header;
+            let (mut reply, mut same) = (request.buffer.clone(), request.buffer);
+            let number = run::request(header, &mut state, &mut medium, &mut reply);
+            let answer = run::answer(header, &mut other, &mut other_medium, &mut same);
+            assert_eq!(answer, number);
             assert!(reply == same && state == other && medium == other_medium);
             assert_eq!(model::tested(&other, &other_medium), Ok(()));
         }
     }
 }
 
-/// Where a test fails, `request` gives its number, whatever the buffer.
+/// Where a test fails, both calls give its number, whatever the buffer.
 #[test]
 fn a_failed_test_is_the_number_of_each_request() {
     let random = &mut Random::new(3);
@@ -63,10 +69,9 @@ fn a_failed_test_is_the_number_of_each_request() {
         assert_eq!(model::tested(state, medium), Err(expected));
         let (mut state, mut medium) = (state.clone(), medium.clone());
         for mut request in generate::requests(random, &adapter, 200) {
-            assert_eq!(
-                model::request(&mut state, &mut medium, &mut request),
-                expected
-            );
+            let buffer = &mut request.buffer;
+            let number = run::request(request.header, &mut state, &mut medium, buffer);
+            assert_eq!(number, expected);
         }
     }
 }

@@ -7,6 +7,7 @@ use crate::marking::Marking;
 use crate::report;
 use crate::row::Row;
 use differential::generate;
+use differential::session::Framing;
 use labkit::names::LEVELS;
 use labkit::session::split;
 use model::State;
@@ -16,7 +17,7 @@ const REQUESTS: usize = 40;
 
 /// A generated exercise at two levels, or at all four.
 fn exercise(seed: u64, levels: &[usize]) -> Exercise {
-    let case = generate::case(seed, REQUESTS);
+    let case = generate::case(seed, REQUESTS, Framing::First);
     let part = |from: &str, bytes| Part {
         from: from.to_string(),
         bytes,

@@ -1,32 +1,60 @@
-//! Requests: sound ones, most of which an adapter grants, and ones with a fault. A request is its whole buffer.
+//! Requests with either header: sound ones, most of which an adapter grants, and ones with a fault.
 
 pub mod fault;
+pub mod first;
 pub mod fis;
+pub mod header;
+pub mod linux;
 pub mod passthrough;
 pub mod sound;
 
 use crate::adapter::Adapter;
-use crate::names::{code, header, signature};
+use crate::names::code;
 use crate::random::Random;
-use crate::wire::put_word;
+pub use header::Header;
 
-/// A buffer with a sound header, whose Length is the body's.
-pub fn buffer(control: u32, body: &[u8]) -> Vec<u8> {
-    let mut buffer = vec![0; header::SIZE];
-    put_word(&mut buffer, header::HEADER_LENGTH, header::SIZE as u32);
-    put_word(&mut buffer, header::CONTROL_CODE, control);
-    put_word(&mut buffer, header::LENGTH, body.len() as u32);
-    buffer[header::SIGNATURE..header::TIMEOUT].copy_from_slice(&signature(control));
-    buffer.extend(body);
-    buffer
+/// A request as sent: its header, and the whole buffer.
+#[derive(Clone, Debug, PartialEq, Eq)]
+pub struct Request {
+    pub header: Header,
+    pub buffer: Vec<u8>,
 }
 
-/// A sound request of this code; Timeout and return code hold anything.
-pub fn sound(random: &mut Random, adapter: &Adapter, control: u32) -> Vec<u8> {
-    let mut request = buffer(control, &sound::body(random, adapter, control));
-    random.fill(&mut request[header::TIMEOUT..header::CONTROL_CODE]);
-    random.fill(&mut request[header::RETURN_CODE..header::LENGTH]);
-    request
+impl Request {
+    /// A buffer with the first header.
+    pub fn first(buffer: Vec<u8>) -> Self {
+        Request {
+            header: Header::First,
+            buffer,
+        }
+    }
+
+    /// A control code, and a buffer with the Linux header.
+    pub fn linux(control: u32, buffer: Vec<u8>) -> Self {
+        Request {
+            header: Header::Linux { control },
+            buffer,
+        }
+    }
+
+    /// Whether the buffer is too short for its header.
+    pub fn is_short(&self) -> bool {
+        self.buffer.len() < self.header.size()
+    }
+
+    /// The control code, if the buffer is not too short.
+    pub fn control(&self) -> u32 {
+        self.header.control(&self.buffer)
+    }
+
+    /// The body, if the buffer is not too short.
+    pub fn body(&self) -> &[u8] {
+        self.header.body(&self.buffer)
+    }
+
+    pub fn body_mut(&mut self) -> &mut [u8] {
+        &mut self.buffer[self.header.size()..]
+    }
 }
 
 /// A code, the passthrough and the change of a phy more often than the others.
@@ -38,21 +66,11 @@ pub fn any_code(random: &mut Random) -> u32 {
     }
 }
 
-/// Any request: two of three are sound. A few are longer than the program takes.
-pub fn any(random: &mut Random, adapter: &Adapter) -> Vec<u8> {
-    let control = any_code(random);
-    let mut request = sound(random, adapter, control);
-    match random.below(12) {
-        0..=7 => {}
-        8 | 9 => fault::in_body(random, adapter, &mut request),
-        10 => fault::in_header(random, &mut request),
-        _ => {
-            fault::in_either(random, adapter, &mut request);
-            fault::in_either(random, adapter, &mut request);
-        }
+/// Any request, with either header.
+pub fn any(random: &mut Random, adapter: &Adapter) -> Request {
+    if random.one_in(2) {
+        first::any(random, adapter)
+    } else {
+        linux::any(random, adapter)
     }
-    if random.one_in(60) {
-        fault::lengthen(random, &mut request);
-    }
-    request
 }

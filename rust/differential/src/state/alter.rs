@@ -6,7 +6,7 @@ use crate::compare::Difference;
 use crate::names::{call, state};
 use crate::pair::Pair;
 use crate::random::Random;
-use crate::request;
+use crate::request::{any_code, first, linux};
 
 /// The values that a byte is altered to.
 #[derive(Clone, Copy, PartialEq, Eq)]
@@ -67,7 +67,7 @@ impl Values {
 }
 
 impl Alterations {
-    /// Each request gets the altered state; the medium goes on.
+    /// Each request gets the altered state, and some go by the Linux header too; the medium goes on.
     fn one(
         &mut self,
         random: &mut Random,
@@ -78,8 +78,13 @@ impl Alterations {
     ) -> Result<(), String> {
         self.alterations += 1;
         let mut requests = reading::requests(random, altered, at);
-        let control = request::any_code(random);
-        requests.push(request::sound(random, adapter, control));
+        let control = any_code(random);
+        requests.push(first::sound(random, adapter, control));
+        for n in 0..requests.len() {
+            if random.one_in(4) {
+                requests.push(linux::turned(random, &requests[n]));
+            }
+        }
         let mut refused = false;
         for request in requests {
             pair.lend(altered);

@@ -1,8 +1,9 @@
-//! Requests whose replies show a byte of a state, or go by it.
+//! Requests with the first header whose replies show a byte of a state, or go by it.
 
 use crate::names::{ata, body_size, code, phy, row, state, stp, ENTITY, MAX_ROWS};
 use crate::random::Random;
-use crate::request::{buffer, fis};
+use crate::request::first::of_body;
+use crate::request::{fis, Request};
 
 /// Where a byte of a state stands.
 enum Place {
@@ -26,7 +27,7 @@ fn place(at: usize) -> Place {
 }
 
 /// The requests that read byte `at` of a state, worked out from the state itself.
-pub fn requests(random: &mut Random, state: &[u8], at: usize) -> Vec<Vec<u8>> {
+pub fn requests(random: &mut Random, state: &[u8], at: usize) -> Vec<Request> {
     match place(at) {
         Place::Counts => vec![phy_info(), device_address(last_row(state))],
         Place::Driver => vec![driver_info()],
@@ -57,36 +58,36 @@ fn last_row(state: &[u8]) -> &[u8] {
 }
 
 /// A request of this code, its body zero but for what is put at its start.
-fn request(control: u32, start: &[u8]) -> Vec<u8> {
+fn request(control: u32, start: &[u8]) -> Request {
     let mut body = start.to_vec();
     body.resize(body_size(control).unwrap_or(0), 0);
-    buffer(control, &body)
+    of_body(control, &body)
 }
 
-pub fn driver_info() -> Vec<u8> {
+pub fn driver_info() -> Request {
     request(code::DRIVER_INFO, &[])
 }
 
-pub fn phy_info() -> Vec<u8> {
+pub fn phy_info() -> Request {
     request(code::PHY_INFO, &[])
 }
 
-fn link_errors(n: usize) -> Vec<u8> {
+fn link_errors(n: usize) -> Request {
     request(code::LINK_ERRORS, &[n as u8])
 }
 
-fn sata_signature(n: usize) -> Vec<u8> {
+fn sata_signature(n: usize) -> Request {
     request(code::SATA_SIGNATURE, &[n as u8])
 }
 
 /// A link reset with other rates: it goes by fixed and by the device's rates.
-fn set_phy_info(random: &mut Random, n: usize) -> Vec<u8> {
+fn set_phy_info(random: &mut Random, n: usize) -> Request {
     let (minimum, maximum) = random.pick(&[(8, 8), (9, 9), (8, 9), (0, 0)]);
     request(code::SET_PHY_INFO, &[n as u8, 0, minimum, maximum, 1])
 }
 
 /// To the phy by its number and by its port: it goes by port, rates, device and address.
-fn check_power(random: &mut Random, phy: &[u8], n: usize) -> Vec<u8> {
+fn check_power(random: &mut Random, phy: &[u8], n: usize) -> Request {
     let mut body = [0; stp::DATA];
     (body[stp::PHY], body[stp::PORT]) = (n as u8, phy[phy::PORT_IDENTIFIER]);
     body[stp::RATE] = random.pick(&[0, 8, 9]);
@@ -94,13 +95,13 @@ fn check_power(random: &mut Random, phy: &[u8], n: usize) -> Vec<u8> {
     body[stp::DESTINATION..stp::DESTINATION + 8].copy_from_slice(address);
     let fis = fis::command(random, ata::CHECK_POWER_MODE, 0, 0);
     body[stp::COMMAND_FIS..stp::FLAGS].copy_from_slice(&fis);
-    buffer(code::STP_PASSTHRU, &body)
+    of_body(code::STP_PASSTHRU, &body)
 }
 
-fn scsi_address(row: &[u8]) -> Vec<u8> {
+fn scsi_address(row: &[u8]) -> Request {
     request(code::SCSI_ADDRESS, &row[..row::OS])
 }
 
-fn device_address(row: &[u8]) -> Vec<u8> {
+fn device_address(row: &[u8]) -> Request {
     request(code::DEVICE_ADDRESS, &row[row::OS..])
 }

@@ -1,22 +1,21 @@
-//! `long_run [REQUESTS] [SEED]`: random cases through both implementations, by the run and by the two calls, until so many requests were
-//! handled (a million if not said), with the properties of whole runs; then states that a caller made, every single-byte damage of a small
-//! file, and every single byte of two states altered. Prints the figures; the exit status is 1 if anything differed.
+//! `long_run [REQUESTS] [SEED]`: random cases through both implementations, by the runs and by the calls, until so many requests were
+//! handled (a million if not said), with the properties of whole runs and of the two headers; then states that a caller made, every
+//! single-byte damage of a small file, and every single byte of two states altered. Prints the figures; the exit status is 1 if anything
+//! differed.
 
-use differential::adapter::Adapter;
-use differential::case::Case;
-use differential::compare::{compare, Difference};
-use differential::coverage::{counts, Coverage};
-use differential::random::Random;
-use differential::side::{CALLS, SIDES};
+mod runs;
+
+use differential::coverage::counts;
+use differential::session::Framing;
 use differential::state::alter::{self, Values};
 use differential::state::made;
-use differential::two_runs::{check, check_denied, check_each, Level, Start};
-use differential::{generate, last_writer, sweep, text};
+use differential::sweep;
+use runs::Runs;
 use std::process::ExitCode;
 use std::time::Instant;
 
-/// One round in so many tests the claims about whole runs too, on a list of its own.
-const PROPERTIES: u64 = 8;
+/// One round in so many tests the claims about whole runs too, on a list of its own. It is odd, so that both framings get such rounds.
+const PROPERTIES: u64 = 7;
 /// One state is made for so many requests.
 const STATES: u64 = 10;
 /// The counts p and a of the states whose bytes are altered.
@@ -87,19 +86,28 @@ impl Compared {
         while runs.coverage.requests < requests {
             let seed = seed.wrapping_mul(1 << 32).wrapping_add(round);
             let _named = Seed(seed);
-            runs.compare(seed);
+            let framing = if round % 2 == 0 {
+                Framing::First
+            } else {
+                Framing::Both
+            };
+            runs.compare(seed, framing);
             if round % PROPERTIES == 0 {
-                runs.properties(seed);
+                runs.properties(seed, framing);
+                runs.sameness(seed);
             }
             round += 1;
         }
         for what in runs.coverage.unknown() {
-            runs.faults.push(format!("unknown to document 01: {what}"));
+            runs.faults
+                .push(format!("unknown to the documents: {what}"));
         }
         println!(
-            "{} requests in {round} cases, each by the run and by the calls; two runs and last writers of {} lists more; {}",
+            "{} requests in {round} cases, each by the run and by the calls; two runs and last writers of {} lists more; \
+             {} bodies behind both headers; {}",
             runs.coverage.requests,
             runs.properties,
+            runs.twins,
             seconds(start)
         );
         println!("{}", runs.coverage);
@@ -156,65 +164,6 @@ impl Compared {
         self.differences += differences.len();
         for difference in differences.iter().take(SHOWN) {
             println!("DIFFERENCE {difference}");
-        }
-    }
-}
-
-/// The random cases.
-#[derive(Default)]
-struct Runs {
-    coverage: Coverage,
-    properties: u64,
-    faults: Vec<String>,
-}
-
-impl Runs {
-    fn compare(&mut self, seed: u64) {
-        let case = generate::case(seed, 120);
-        match compare(&case) {
-            Ok(outcome) => self.coverage.count(&case, &outcome),
-            Err(Difference { seed, what }) => {
-                // So that a run in which everything differs ends too.
-                self.coverage.requests += 1;
-                self.faults.push(format!("seed {seed}: {what}"));
-            }
-        }
-    }
-
-    fn properties(&mut self, seed: u64) {
-        self.properties += 1;
-        let random = &mut Random::new(seed);
-        let adapter = Adapter::sound(random);
-        let opening = generate::sound_opening(random, &adapter);
-        let requests = generate::requests(random, &adapter, 80);
-        let low = text::LEVELS[random.below(4)];
-        let high = text::LEVELS[random.within(usize::from(low), 3)];
-        let low = Level::of_number(random, low);
-        let high = Level::of_number(random, high);
-        let start = Start {
-            seed,
-            file: &opening.file,
-            medium: &opening.medium,
-            requests: &requests,
-        };
-        let case = Case::of_requests(seed, &high.text, &opening.file, &opening.medium, &requests);
-        for side in SIDES {
-            let name = format!("seed {seed}, {side:?}");
-            let denied = check(side, &start, &low, &high).map(drop);
-            self.note(&format!("{name}, two runs"), denied);
-            let rates = last_writer::check(&case, &side.run(&case)).map(drop);
-            self.note(&format!("{name}, last writer"), rates);
-        }
-        for side in CALLS {
-            let name = format!("seed {seed}, {side:?}, two runs by calls");
-            self.note(&name, check_each(side, &start, &low, &high));
-        }
-        self.note(&format!("seed {seed}, denied"), check_denied(&start, &low));
-    }
-
-    fn note(&mut self, name: &str, result: Result<(), String>) {
-        if let Err(what) = result {
-            self.faults.push(format!("{name}: {what}"));
         }
     }
 }

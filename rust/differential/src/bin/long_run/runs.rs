@@ -1,0 +1,85 @@
+//! The random cases, and the claims about whole runs and about the two headers.
+
+use differential::adapter::Adapter;
+use differential::case::Case;
+use differential::compare::{compare, Difference};
+use differential::coverage::Coverage;
+use differential::random::Random;
+use differential::session::Framing;
+use differential::side::{CALLS, SIDES};
+use differential::two_runs::{check, check_denied, check_each, Level, Start};
+use differential::{generate, last_writer, sameness, text};
+
+/// The most requests of a case, the requests of a list, the bodies behind both headers.
+const CASE: usize = 120;
+const LIST: usize = 80;
+const TWINS: usize = 40;
+
+#[derive(Default)]
+pub struct Runs {
+    pub coverage: Coverage,
+    pub properties: u64,
+    pub twins: u64,
+    pub faults: Vec<String>,
+}
+
+impl Runs {
+    pub fn compare(&mut self, seed: u64, framing: Framing) {
+        let case = generate::case(seed, CASE, framing);
+        match compare(&case) {
+            Ok(outcome) => self.coverage.count(&case, &outcome),
+            Err(Difference { seed, what }) => {
+                // So that a run in which everything differs ends too.
+                self.coverage.requests += 1;
+                self.faults.push(format!("seed {seed}: {what}"));
+            }
+        }
+    }
+
+    /// Two runs and the last writers of a list.
+    pub fn properties(&mut self, seed: u64, framing: Framing) {
+        self.properties += 1;
+        let random = &mut Random::new(seed);
+        let adapter = Adapter::sound(random);
+        let opening = generate::sound_opening(random, &adapter);
+        let requests = generate::requests_of(random, &adapter, LIST, framing);
+        let low = text::LEVELS[random.below(4)];
+        let high = text::LEVELS[random.within(usize::from(low), 3)];
+        let low = Level::of_number(random, low);
+        let high = Level::of_number(random, high);
+        let start = Start {
+            seed,
+            file: &opening.file,
+            medium: &opening.medium,
+            requests: &requests,
+        };
+        let case = Case::of_requests(seed, &high.text, &opening.file, &opening.medium, &requests);
+        for side in SIDES {
+            let name = format!("seed {seed}, {side:?}");
+            let denied = check(side, &start, &low, &high).map(drop);
+            self.note(&format!("{name}, two runs"), denied);
+            let rates = last_writer::check(&case, &side.run(&case)).map(drop);
+            self.note(&format!("{name}, last writer"), rates);
+        }
+        for side in CALLS {
+            let name = format!("seed {seed}, {side:?}, two runs by calls");
+            self.note(&name, check_each(side, &start, &low, &high));
+        }
+        self.note(&format!("seed {seed}, denied"), check_denied(&start, &low));
+    }
+
+    /// Bodies behind both headers.
+    pub fn sameness(&mut self, seed: u64) {
+        self.twins += TWINS as u64;
+        for side in CALLS {
+            let same = sameness::walk(side, seed, TWINS, |_| ());
+            self.note(&format!("seed {seed}, {side:?}, both headers"), same);
+        }
+    }
+
+    fn note(&mut self, name: &str, result: Result<(), String>) {
+        if let Err(what) = result {
+            self.faults.push(format!("{name}: {what}"));
+        }
+    }
+}

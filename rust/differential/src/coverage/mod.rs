@@ -1,0 +1,96 @@
+//! How often each number, return code and command was met, with the first header, and with the Linux header at each level; and which of
+//! those that the documents know were not.
+
+pub mod known;
+mod met;
+
+use crate::case::{Case, Outcome};
+use crate::names::{call, state};
+use crate::request::Header;
+use known::Kind;
+use met::Met;
+use std::collections::BTreeMap;
+use std::fmt;
+
+#[derive(Default)]
+pub struct Coverage {
+    pub requests: u64,
+    openings: BTreeMap<u32, u64>,
+    kinds: BTreeMap<Kind, Met>,
+}
+
+impl Coverage {
+    pub fn opening(&mut self, number: u32) {
+        *self.openings.entry(number).or_default() += 1;
+    }
+
+    /// Counts what a case met; the outcome is of a side that shows its state.
+    pub fn count(&mut self, case: &Case, outcome: &Outcome) {
+        self.opening(outcome.opening);
+        let state = outcome.state.as_ref().expect("the state is shown");
+        for exchange in case.exchanges(outcome) {
+            self.requests += 1;
+            let kind = match exchange.header {
+                Header::First => Kind::First,
+                Header::Linux { .. } => Kind::Linux(state[state::LEVEL]),
+            };
+            self.kinds.entry(kind).or_default().count(&exchange);
+        }
+    }
+
+    pub fn openings_met(&self) -> String {
+        format!("openings  {}", counts(&self.openings))
+    }
+
+    /// What the documents know and was not met.
+    pub fn missing(&self) -> Vec<String> {
+        let openings = call::OPENINGS
+            .iter()
+            .filter(|&number| !self.openings.contains_key(number))
+            .map(|number| format!("opening {number}"));
+        let none = Met::default();
+        let of_kinds = known::kinds().into_iter().flat_map(|kind| {
+            let met = self.kinds.get(&kind).unwrap_or(&none);
+            of_kind(kind, met.missing(kind))
+        });
+        openings.chain(of_kinds).collect()
+    }
+
+    /// What was met and is unknown to the documents.
+    pub fn unknown(&self) -> Vec<String> {
+        let openings = self
+            .openings
+            .keys()
+            .filter(|number| !call::OPENINGS.contains(number))
+            .map(|number| format!("opening {number}"));
+        let of_kinds = self
+            .kinds
+            .iter()
+            .flat_map(|(&kind, met)| of_kind(kind, met.unknown(kind)));
+        openings.chain(of_kinds).collect()
+    }
+}
+
+fn of_kind(kind: Kind, what: Vec<String>) -> impl Iterator<Item = String> {
+    what.into_iter()
+        .map(move |what| format!("{kind:?}: {what}"))
+}
+
+impl fmt::Display for Coverage {
+    fn fmt(&self, f: &mut fmt::Formatter<'_>) -> fmt::Result {
+        write!(f, "{}", self.openings_met())?;
+        for (kind, met) in &self.kinds {
+            write!(f, "\n{kind:?}\n{met}")?;
+        }
+        Ok(())
+    }
+}
+
+/// Each number with how often it was met.
+pub fn counts(met: &BTreeMap<u32, u64>) -> String {
+    let shown: Vec<String> = met
+        .iter()
+        .map(|(number, count)| format!("{number}: {count}"))
+        .collect();
+    shown.join(", ")
+}
