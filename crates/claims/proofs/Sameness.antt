@@ -1,8 +1,8 @@
 -- The proof that a request gets the same answer under either header. Assumes nothing.
 use mathlib.Core.Path.{_≡_, refl, sym, _∙_}
 use mathlib.Core.Bool.{true}
-use mathlib.Core.List.{List, _++_}
-use Prim.Native.Nat.{ℕ, _≤_}
+use mathlib.Core.List.{_++_}
+use Prim.Native.Nat.{_≤_}
 use native.Mathlib.Omega.{arith}
 use lib.Dec.{leb}
 use lib.ListN.{length, take}
@@ -20,7 +20,7 @@ use Rattle.header.proofs.Laws.{form-room, code-there, headed, body-shown, full-
 use Rattle.service.specs.Serve.{Store, Served, served}
 use Rattle.dispatch.specs.Request.{Outcome, bufferNumber, pointNumber, inBuffer, answered, replied, answeredAt, handled}
 use Rattle.dispatch.proofs.Laws.{number-state}
-use Rattle.claims.specs.Sameness.{PastHeader, SameAnswer, Twins, atLevel, Sameness}
+use Rattle.claims.specs.Sameness.{PastHeader, atLevel, Sameness}
 use Rattle.claims.proofs.Steps.{number-same}
 
 -- ---- a request that is held to Full, and passes its header's checks, is served

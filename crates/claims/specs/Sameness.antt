@@ -1,16 +1,21 @@
 -- The two headers, one simulator (W-201): "on the same adapter and medium, a request passing its header's checks gets the same return code, body,
--- medium and state (but the level) as one with the same code and body that passes the other header's checks, at Full". Assumes nothing.
+-- medium and state (but the level) as one with the same code and body that passes the other header's checks, at Full". And neither header shuts a
+-- request out. Assumes nothing.
 use mathlib.Core.Path.{_≡_}
-use mathlib.Core.List.{List}
-use Prim.Native.Nat.{ℕ, _≤_}
+use mathlib.Core.Bool.{true, cond}
+use mathlib.Core.List.{List, _++_}
+use Prim.Native.Nat.{ℕ, _+_, _<_, _≤_}
 use lib.ListN.{length}
+use Rattle.laws.specs.Clear.{zeros}
 use Rattle.codes.specs.Codes.{success}
+use Rattle.wire.specs.Number.{bytes}
 use Rattle.level.specs.declared.Level.{Level}
 use Rattle.level.specs.Text.{full}
 use Rattle.adapter.specs.Adapter.{Adapter}
 use Rattle.state.specs.State.{stateWith}
 use Rattle.header.specs.declared.Kind.the-variants.{Srb, Linux}
-use Rattle.header.specs.Form.{behindHeader, returnCode}
+use Rattle.header.specs.Form.{srb, linux, behindHeader, returnCode}
+use Rattle.header.specs.Table.{known, structureSize, dataSize, signedAll, csmiAll, csmiSas}
 use Rattle.header.specs.Sent.{Request, sent, formOf, controlOf, bodyOf, headerCode}
 use Rattle.service.specs.Serve.{Store}
 use Rattle.dispatch.specs.Request.{Point, point, Outcome, pointNumber, handled}
@@ -46,3 +51,26 @@ Sameness =
     let r = sent Srb srbBuffer in
     pointNumber (atLevel level ad store) ≡ 0 → PastHeader q → PastHeader r → Twins q r
     → SameAnswer q r (handled (atLevel level ad store) q) (handled (atLevel full ad store) r)
+
+-- ---- neither header shuts a request out
+
+-- a first header before n bytes: HeaderLength, Signature, Timeout, ControlCode, ReturnCode, Length
+abbrev pub srbHeader : ℕ → ℕ → List ℕ
+srbHeader control n =
+    bytes 4 (srb .size) ++ (cond (signedAll control) csmiAll csmiSas ++ (zeros 4 ++ (bytes 4 control ++ (zeros 4 ++ bytes 4 n))))
+
+-- a Linux one: IOControllerNumber, Length, and zeros, of which Direction are two
+abbrev pub linuxHeader : ℕ → List ℕ
+linuxHeader n = zeros 4 ++ (bytes 4 (linux .size + n) ++ zeros 12)
+
+-- a request of each kind with this code and body, both past their header's checks
+pub record Heard (control : ℕ) (body : List ℕ) : Type 0 where
+  pub srb : PastHeader (sent Srb (srbHeader control (length body) ++ body))
+  pub linux : PastHeader (sent (Linux control) (linuxHeader (length body) ++ body))
+  pub twins : Twins (sent (Linux control) (linuxHeader (length body) ++ body)) (sent Srb (srbHeader control (length body) ++ body))
+
+-- of every code that is served and every body that has its structure and its data, as long as a Length can say it
+abbrev pub HeardUnderBoth : Type 0
+HeardUnderBoth =
+    (control : ℕ) (body : List ℕ) → known control ≡ true → control < 4294967296 → structureSize control + dataSize control body ≤ length body
+    → linux .size + length body < 4294967296 → Heard control body

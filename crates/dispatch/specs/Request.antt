@@ -1,7 +1,7 @@
 -- One request, under either header (document 01, "Request", "From the input", "From the state"; W-201): the call's number, the state, what is lent
 -- beside it and the buffer that it leaves, after refusals as after success. Assumes nothing.
 use mathlib.Core.Path.{_≡_}
-use mathlib.Core.Bool.{Bool, cond}
+use mathlib.Core.Bool.{cond}
 use mathlib.Core.List.{List, _++_}
 use Prim.Native.Nat.{ℕ}
 use lib.Dec.{eqb, ltb}

@@ -24,7 +24,7 @@ use Rattle.header.specs.Form.{Form, srb, linux, behindHeader, returnCode
 use Rattle.header.specs.Table.{known, structureSize, dataSize, need}
 use Rattle.header.specs.Srb.{headerLength, controlCode, lengthField, srbBody, signatureHolds, lengthHolds, codeChecked, srbCode}
 use Rattle.header.specs.Linux.{linuxLength, linuxBody, directionHolds, linuxLengthHolds, linuxCode}
-use Rattle.header.specs.Sent.{Request, sent, formBy, controlBy, codeBy, levelBy, formOf, controlOf, bodyOf, HasStructure, headerCode, above, refusedByLevel, checksCode}
+use Rattle.header.specs.Sent.{Request, sent, formBy, codeBy, levelBy, formOf, controlOf, bodyOf, HasStructure, headerCode, above, refusedByLevel, checksCode}
 
 -- ---- a header of any form, with the return code inside it
 
