@@ -7,7 +7,7 @@ use Rattle.laws.specs.Splice.{part, splice}
 use Rattle.rows.specs.Row.{Row, rowAt}
 use Rattle.reports.specs.Report.{Report, report, filled}
 
--- the row that the body's first n bytes name gives its other bytes, and they go behind these; a row was found where its number is below a
+-- a row looked up by the body's first n bytes: where one was found, below a, what it gives goes behind them; where not, the code is `none`
 unfoldable pub converted : (List Row → ℕ → List ℕ → ℕ) → (Row → List ℕ) → ℕ → ℕ → List Row → ℕ → List ℕ → Report
 converted index bytes n none rows a body =
     let i : ℕ = index rows a (part body 0 n) in
