@@ -6,7 +6,7 @@ use Rattle.laws.specs.Cases.{Case}
 use Rattle.block.specs.Check.{checkOf}
 
 -- an all-zero block with its number and its check
-abbrev pub zeroBlock : ℕ → ℕ → Case
+abbrev zeroBlock : ℕ → ℕ → Case
 zeroBlock k check = record { gives = checkOf (replicate 512 0) k ∷ []; said = check ∷ [] }
 
 abbrev pub blockCases : List Case

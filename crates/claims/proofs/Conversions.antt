@@ -18,8 +18,9 @@ use Rattle.layout.specs.Layout.{phyCount, rowCount, rowPlace}
 use Rattle.file.specs.File.{fileRow, adapterOf}
 use Rattle.file.proofs.Laws.{row-within}
 use Rattle.reports.specs.Report.{Report, filled, report}
-use Rattle.reports.specs.ScsiAddress.{osBytes, scsiAddress}
-use Rattle.reports.specs.DeviceAddress.{sasBytes, deviceAddress}
+use Rattle.reports.specs.Conversion.{converted}
+use Rattle.reports.specs.ScsiAddress.{scsiAddress}
+use Rattle.reports.specs.DeviceAddress.{deviceAddress}
 use Rattle.state.specs.Open.{openedOf}
 use Rattle.state.proofs.AcceptedLaws.{Open, open-accepted, open-holds}
 use Rattle.header.specs.Table.{structureSize}
@@ -108,10 +109,10 @@ module _ (p : Point) (w : AcceptedRows p) where
 
   -- what a 27 and a 28 are answered with
   abbrev scsiReport : Request → Report
-  scsiReport r = osBytes rows a (sasIndex rows a (part (bodyOf r) 0 16)) (bodyOf r)
+  scsiReport r = converted sasIndex (λ (x : Row). x .os) 16 noScsiAddress rows a (bodyOf r)
 
   abbrev deviceReport : Request → Report
-  deviceReport r = sasBytes rows a (osIndex rows a (part (bodyOf r) 0 4)) (bodyOf r)
+  deviceReport r = converted osIndex (λ (x : Row). x .sas) 4 noDeviceAddress rows a (bodyOf r)
 
   scsi-handled : (r : Request) → Sound p r getScsiAddress → handled p r ≡ reportedBy p r (scsiReport r)
   unfolding served reportOf scsiAddress reportedBy
@@ -132,7 +133,7 @@ module _ (p : Point) (w : AcceptedRows p) where
   device-stays q o = ap (λ (x : Outcome). x .point) (device-handled q o) ∙ reported-stays p q (deviceReport q)
 
   pub both-ways : RoundTrip p
-  unfolding osBytes sasBytes structureSize
+  unfolding converted structureSize
   both-ways =
       record {
         sas = λ q r oq or g e.

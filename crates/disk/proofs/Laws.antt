@@ -38,10 +38,10 @@ unfolding statusOf
 status-shown body twelve a = refl
 
 -- what a reply's body keeps of the request's, and the status that it shows where the code is 0
-pub record Replied (body : List ℕ) (status code : ℕ) (reply : List ℕ) : Type 0 where
-  pub size : length reply ≡ length body
-  pub front : (i n : ℕ) → i + n ≤ 44 → part reply i n ≡ part body i n
-  pub shown : code ≡ 0 → replyStatus reply ≡ status
+record Replied (body : List ℕ) (status code : ℕ) (reply : List ℕ) : Type 0 where
+  size : length reply ≡ length body
+  front : (i n : ℕ) → i + n ≤ 44 → part reply i n ≡ part body i n
+  shown : code ≡ 0 → replyStatus reply ≡ status
 
 with-status : (body : List ℕ) (r : AtaCommand) (a : Answer) → 136 ≤ length body → Replied body (a .status) 0 (withStatus body r a)
 unfolding withStatus

@@ -48,7 +48,7 @@ performs-by code disk disk′ body body′ p q = rw (p, q)
 abbrev pub Succeeds : Answer → Type 0
 Succeeds a = a .status ≡ 0x51 → ⊥
 
-pub transfer-success : (addressed : Bool) (lba count : ℕ) → Succeeds (transfer addressed lba count)
+transfer-success : (addressed : Bool) (lba count : ℕ) → Succeeds (transfer addressed lba count)
     → (lba + count ≤ 16) × (transfer addressed lba count ≡ succeeds (512 * count))
 unfolding transfer
 transfer-success addressed lba count h =

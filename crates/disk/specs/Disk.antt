@@ -16,7 +16,7 @@ use Rattle.disk.specs.declared.Answer.{Answer}
 -- ---- what the request asks
 
 -- "Bit 6 of byte 7" is set
-abbrev pub addressed : List ℕ → Bool
+abbrev addressed : List ℕ → Bool
 addressed body = eqb (fis body 7 / 64 % 2) 1
 
 -- "LBA from FIS bytes 4 (lowest), 5, 6 and the low four bits of 7"
@@ -81,7 +81,7 @@ unfoldable pub byteTwelve : ℕ → ℕ → ℕ
 byteTwelve command byte = cond (eqb command 0xe5) 0xff byte
 
 -- "status FIS 34h, 0, status, error, bytes 4–13 of the command FIS (byte 12 as above), then 0"
-abbrev pub statusFis : List ℕ → ℕ → ℕ → ℕ → List ℕ
+abbrev statusFis : List ℕ → ℕ → ℕ → ℕ → List ℕ
 statusFis body status error twelve =
     0x34 ∷ 0 ∷ status ∷ error
     ∷ fis body 4 ∷ fis body 5 ∷ fis body 6 ∷ fis body 7 ∷ fis body 8 ∷ fis body 9 ∷ fis body 10 ∷ fis body 11 ∷ twelve ∷ fis body 13

@@ -17,7 +17,7 @@ pub fields-kept : (a b : Phy) (n : PhyIdentifier) (p : ℕ) → Kept a b → Set
 unfolding fieldsHold identifyHolds ratesHold rangeHolds attachedHold emptyHolds deviceHolds heldSignatureHolds
 fields-kept a b n p k s = cc
 
-pub range-kept : (a b : Phy) (minimum maximum : ℕ) → Kept a b → rangeHolds b minimum maximum ≡ rangeHolds a minimum maximum
+range-kept : (a b : Phy) (minimum maximum : ℕ) → Kept a b → rangeHolds b minimum maximum ≡ rangeHolds a minimum maximum
 unfolding rangeHolds
 range-kept a b minimum maximum k = cc
 

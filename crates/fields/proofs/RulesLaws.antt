@@ -30,7 +30,7 @@ zero-phy = refl
 
 -- ---- rates that passed fit the programmed half of a byte
 
-pub rate-below : (code : ℕ) → isRate code ≡ true → code < 16
+rate-below : (code : ℕ) → isRate code ≡ true → code < 16
 unfolding isRate
 rate-below code h =
     by-bool (λ (t : Bool). eqb code 8 ≡ t → code < 16) (λ p. omega (arith, eqb-true code 8 p))

@@ -54,7 +54,7 @@ readBy checks ad = cond (eqb (firstFailing checks) 0) (reads 0 ad) (refusedFile 
 
 -- "Opening checks, in order: .. file under 512 bytes; block 0's check; p and a; file length ..; other checks, lowest block first; fields",
 -- with which the unnamed bytes are tested
-abbrev pub fileChecks : List ℕ → ℕ → ℕ → List Check
+abbrev fileChecks : List ℕ → ℕ → ℕ → List Check
 fileChecks file p a =
     check (leb 512 (length file)) badFileLength
     ∷ check (sound (blockAt file 0) 0) blockCheck

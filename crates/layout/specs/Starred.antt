@@ -5,7 +5,7 @@ use Rattle.laws.specs.Cases.{Case}
 use Rattle.layout.specs.Layout.{fileLength}
 
 -- the counts p and a, with the length of the file
-abbrev pub lengthFor : ℕ → ℕ → ℕ → Case
+abbrev lengthFor : ℕ → ℕ → ℕ → Case
 lengthFor p a n = record { gives = fileLength p a ∷ []; said = n ∷ [] }
 
 abbrev pub layoutCases : List Case

@@ -93,7 +93,7 @@ entries-first b (c ∷ rest) =
     refl (rw (entries-first c rest)) (eqb b semicolon)
 
 -- the entry that starts at an index, and those behind it
-pub entries-at : (text : List ℕ) (from : ℕ) → from < length text
+entries-at : (text : List ℕ) (from : ℕ) → from < length text
     → entries (drop from text)
     ≡ part text from (entryLength (drop from text)) ∷ entries (drop (from + entryLength (drop from text)) text)
 unfolding part

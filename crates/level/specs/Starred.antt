@@ -8,10 +8,10 @@ use Rattle.level.specs.Text.{textLevel}
 use Rattle.level.specs.Need.{needOf}
 
 -- a text with its call number and level, and a command with the level it needs
-abbrev pub text : String → ℕ → ℕ → Case
+abbrev text : String → ℕ → ℕ → Case
 text s call level = record { gives = textLevel (ascii s) .call ∷ textLevel (ascii s) .level .0 ∷ []; said = call ∷ level ∷ [] }
 
-abbrev pub needCase : ℕ → ℕ → Case
+abbrev needCase : ℕ → ℕ → Case
 needCase command level = record { gives = needOf command .0 ∷ []; said = level ∷ [] }
 
 abbrev pub levelCases : List Case

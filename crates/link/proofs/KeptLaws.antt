@@ -18,7 +18,7 @@ use Rattle.codes.specs.Codes.{phyDisabled, linkRateFailed}
 use Rattle.link.specs.Rule.{ruleOf, counted, reset, disabled, negotiatedHolds}
 
 -- the rule goes by what neither changes
-pub rule-kept : (a b : Phy) → Kept a b → Settings a b → ruleOf b ≡ ruleOf a
+rule-kept : (a b : Phy) → Kept a b → Settings a b → ruleOf b ≡ ruleOf a
 unfolding ruleOf
 rule-kept a b k s = cc
 
@@ -29,7 +29,7 @@ given phy e =
     by-bool (λ (t : Bool). t || eqb (negotiatedOf phy) (ruleOf phy) ≡ true) refl (eq-eqb (negotiatedOf phy) (ruleOf phy) e)
     (eqb (negotiatedOf phy) phyDisabled)
 
-pub holds-kept : (a b : Phy) → Kept a b → Settings a b → negotiatedOf b ≡ negotiatedOf a → negotiatedHolds b ≡ negotiatedHolds a
+holds-kept : (a b : Phy) → Kept a b → Settings a b → negotiatedOf b ≡ negotiatedOf a → negotiatedHolds b ≡ negotiatedHolds a
 unfolding negotiatedHolds
 holds-kept a b k s e = rw (e, rule-kept a b k s)
 
@@ -57,7 +57,7 @@ module _ (phy : Phy) where
       (settings-trans phy linked (raised linked) (settings-negotiated phy (ruleOf phy)) (settings-raised linked))
       (settings-negotiated phy (ruleOf phy))
 
-  pub negotiated-reset : length (phy .entity) ≡ 64 → negotiatedOf (reset phy) ≡ ruleOf phy
+  negotiated-reset : length (phy .entity) ≡ 64 → negotiatedOf (reset phy) ≡ ruleOf phy
   unfolding reset counted
   negotiated-reset e =
       either (λ (b : Phy). negotiatedOf b ≡ ruleOf phy) (eqb (ruleOf phy) linkRateFailed)
@@ -81,7 +81,7 @@ module _ (phy : Phy) where
   unfolding disabled
   settings-disabled = settings-negotiated phy phyDisabled
 
-  pub negotiated-disabled : length (phy .entity) ≡ 64 → negotiatedOf (disabled phy) ≡ phyDisabled
+  negotiated-disabled : length (phy .entity) ≡ 64 → negotiatedOf (disabled phy) ≡ phyDisabled
   unfolding disabled
   negotiated-disabled e = negotiated-now phy phyDisabled e
 

@@ -7,7 +7,7 @@ use Rattle.phy.specs.declared.Phy.{Phy}
 use Rattle.link.specs.Rule.{ruleOf}
 
 -- a phy with an end device attached: its programmed range, within hardware that has both rates, and the device's range
-abbrev pub phyWith : ℕ → ℕ → ℕ → ℕ → Phy
+abbrev phyWith : ℕ → ℕ → ℕ → ℕ → Phy
 phyWith minimum maximum lowest highest =
     record {
       entity = replicate 30 0 ++ ((16 * minimum + 8) ∷ (16 * maximum + 9) ∷ 0 ∷ 0 ∷ 0 ∷ 0 ∷ 0x10 ∷ replicate 27 0);
@@ -20,7 +20,7 @@ phyWith minimum maximum lowest highest =
     }
 
 -- a programmed range and a device's, with the rate
-abbrev pub linkCase : ℕ → ℕ → ℕ → ℕ → ℕ → Case
+abbrev linkCase : ℕ → ℕ → ℕ → ℕ → ℕ → Case
 linkCase minimum maximum lowest highest rate = record { gives = ruleOf (phyWith minimum maximum lowest highest) ∷ []; said = rate ∷ [] }
 
 abbrev pub linkCases : List Case

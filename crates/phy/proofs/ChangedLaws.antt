@@ -44,14 +44,6 @@ pub negotiated-raised : (phy : Phy) → negotiatedOf (raised phy) ≡ negotiated
 unfolding raised negotiatedOf
 negotiated-raised phy = refl
 
-pub entity-raised : (phy : Phy) → raised phy .entity ≡ phy .entity
-unfolding raised
-entity-raised phy = refl
-
-pub counters-raised : (phy : Phy) → raised phy .counters ≡ set (phy .counters) problemPlace (oneMore (getD (phy .counters) problemPlace 0))
-unfolding raised
-counters-raised phy = refl
-
 -- ---- the negotiated rate
 
 pub kept-negotiated : (phy : Phy) (rate : ℕ) → Kept phy (negotiatedAs phy rate)
@@ -73,15 +65,6 @@ settings-negotiated phy rate =
 pub negotiated-now : (phy : Phy) (rate : ℕ) → length (phy .entity) ≡ 64 → negotiatedOf (negotiatedAs phy rate) ≡ rate
 unfolding negotiatedAs negotiatedOf
 negotiated-now phy rate e = byte-here phy negotiatedPlace rate e (omega arith)
-
-pub counters-negotiated : (phy : Phy) (rate : ℕ) → negotiatedAs phy rate .counters ≡ phy .counters
-unfolding negotiatedAs stored
-counters-negotiated phy rate = refl
-
--- every byte of the entity but one
-pub bytes-negotiated : (phy : Phy) (rate i : ℕ) → (i ≡ negotiatedPlace → ⊥) → byteOf (negotiatedAs phy rate) i ≡ byteOf phy i
-unfolding negotiatedAs
-bytes-negotiated phy rate i h = byte-other phy negotiatedPlace rate i h
 
 -- ---- the signal class and the programmed rates
 

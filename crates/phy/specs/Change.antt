@@ -9,7 +9,7 @@ use Rattle.phy.specs.declared.Phy.{Phy}
 use Rattle.phy.specs.Entity.{byteOf, classPlace, negotiatedPlace, minimumPlace, maximumPlace}
 
 -- the phy with another entity
-abbrev pub withEntity : Phy → List ℕ → Phy
+abbrev withEntity : Phy → List ℕ → Phy
 withEntity phy entity =
     record {
       entity = entity;

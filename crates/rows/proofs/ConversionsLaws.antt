@@ -21,7 +21,7 @@ neither-right true b p = absurd (false≢true p)
 neither-right false true p = absurd (false≢true p)
 neither-right false false p = refl
 
-pub hold-apart : (rows : List Row) (a i j : ℕ) → rowsHold rows a ≡ true → j < i → i < a → apart (rowAt rows j) (rowAt rows i) ≡ true
+hold-apart : (rows : List Row) (a i j : ℕ) → rowsHold rows a ≡ true → j < i → i < a → apart (rowAt rows j) (rowAt rows i) ≡ true
 unfolding rowsHold fresh
 hold-apart rows a i j p l h = all-at (λ (m : ℕ). apart (rowAt rows m) (rowAt rows i)) i j (all-at (fresh rows) a i p h) l
 

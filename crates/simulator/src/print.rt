@@ -1,6 +1,11 @@
 // What the program prints.
 use libc::STDOUT_FILENO;
 
+// How many bytes a header has, and where in it the return code stands.
+const HEADER_SIZE: usize = 28;
+
+const RETURN_CODE: usize = 20;
+
 fn say(text: &[u8]) {
     io::write_all(STDOUT_FILENO, text);
 }
@@ -27,8 +32,8 @@ pub fn say_cut() {
 // The return code, or `-` where none was written.
 fn say_code(call: u32, buffer: &[u8]) {
     if call == 0 {
-        if 28 <= buffer.len() {
-            say_number(wire::read32(buffer, 20) as u64);
+        if HEADER_SIZE <= buffer.len() {
+            say_number(wire::read32(buffer, RETURN_CODE) as u64);
             return;
         }
     }

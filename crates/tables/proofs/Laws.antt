@@ -28,7 +28,7 @@ pub phy-in : (t : List ℕ) (n : ℕ) → n < 32 → phyIn (tablesOf t) n ≡ ph
 unfolding tablesOf
 phy-in t n h = getD-listTo (phyAt t) 32 n noPhy h
 
-pub tables-phy : (t : List ℕ) (n : ℕ) (r : Phy) → n < 32 → r ≡ phyAt t n → r ≡ phyIn (tablesOf t) n
+tables-phy : (t : List ℕ) (n : ℕ) (r : Phy) → n < 32 → r ≡ phyAt t n → r ≡ phyIn (tablesOf t) n
 tables-phy t n r h e = e ∙ sym (phy-in t n h)
 
 -- the arrays have the lengths of their types

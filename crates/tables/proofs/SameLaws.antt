@@ -36,7 +36,7 @@ module _ (b : List ℕ) (e : length b ≡ 104) (h : Bytes b) where
       let g : (i : ℕ) → i < 4 → getD b (100 + i) 0 ≡ getD (part b 100 4) i 0 = λ i l. sym (getD-part b 100 4 i 0 l) in
       rw (g 0 (omega arith), g 1 (omega arith), g 2 (omega arith), g 3 (omega arith)) (four (part b 100 4) (length-part b 100 4 (omega arith)))
 
-  pub bytes-back : phyBytes (phyOf b) ≡ b
+  bytes-back : phyBytes (phyOf b) ≡ b
   unfolding phyBytes phyOf
   bytes-back =
       rw (counts-same, last-same) (rw (← part-add b 80 20 4, ← part-add b 64 16 24, ← part-add b 0 64 40) (ap (part b 0) (sym e) ∙ part-all b))

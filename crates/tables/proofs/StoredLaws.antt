@@ -41,7 +41,7 @@ module _ (t b : List ℕ) (n : ℕ) (size : length t ≡ tablesSize) (h : n < 32
       (ltb i n) refl)
 
   -- the tables after it are those before with another phy n
-  pub tables-stored : (phy : Phy) → phyOf b ≡ phy → tablesOf after ≡ withPhy (tablesOf t) n phy
+  tables-stored : (phy : Phy) → phyOf b ≡ phy → tablesOf after ≡ withPhy (tablesOf t) n phy
   unfolding tablesOf withPhy
   tables-stored phy q =
       rw (get-below t (phyStart n) b 0 0 (omega arith) (omega arith), get-below t (phyStart n) b 1 0 (omega arith) (omega arith), part-below t (phyStart n) b 2 174 (omega arith) (omega arith), listTo-set (phyAt t) (phyAt after) 32 n phy noPhy h (phy-here ∙ q) phy-there, part-above t (phyStart n) b rowsStart rowsSize (omega arith) (omega arith))
@@ -113,7 +113,7 @@ module _ (phy : Phy) (e : length (phy .entity) ≡ 64) (c : length (phy .counter
       ∙ get-behind (counterBytes (phy .counters)) rest 16 (20 + i) 0 length-counts
       ∙ get-behind (phy .signature) (lastBytes phy) 20 i 0 s
 
-  pub phy-back : phyOf (phyBytes phy) ≡ phy
+  phy-back : phyOf (phyBytes phy) ≡ phy
   unfolding phyOf
   phy-back = rw (entity-back, counters-back, signature-back, last-back 0, last-back 1, last-back 2, last-back 3)
 
@@ -148,7 +148,7 @@ pub record Whole (phy : Phy) : Type 0 where
   pub fits2 : Fits w32 (getD (phy .counters) 2 0)
   pub fits3 : Fits w32 (getD (phy .counters) 3 0)
 
-pub written-bytes : (d : List ℕ) (phy : Phy) → length d ≡ 104 → Whole phy → written d phy ≡ phyBytes phy
+written-bytes : (d : List ℕ) (phy : Phy) → length d ≡ 104 → Whole phy → written d phy ≡ phyBytes phy
 unfolding phyBytes written
 written-bytes d phy h w =
     let k : length (counterBytes (phy .counters)) ≡ 16 = counts-long (phy .counters) in
@@ -159,7 +159,7 @@ written-bytes d phy h w =
     (rw (splice-next d 0 100 ((phy .entity ++ counterBytes (phy .counters)) ++ phy .signature) (lastBytes phy) (rw (length-append, length-append, w .entity, k, w .signature)) (omega arith))
     (simp append-assoc))))
 
-pub written-back : (d : List ℕ) (phy : Phy) → length d ≡ 104 → Whole phy → phyOf (written d phy) ≡ phy
+written-back : (d : List ℕ) (phy : Phy) → length d ≡ 104 → Whole phy → phyOf (written d phy) ≡ phy
 written-back d phy h w =
     ap phyOf (written-bytes d phy h w) ∙ phy-back phy (w .entity) (w .counters) (w .signature) (w .fits0) (w .fits1) (w .fits2) (w .fits3)
 

@@ -28,7 +28,7 @@ number-bytes (suc k) n h =
     rw (number-bytes k (n / 256) l) (omega arith)
 
 -- the number at an index: its lowest byte, and 256 times the number behind that
-pub number-part : (s : List ℕ) (at k : ℕ) → at < length s → number (part s at (suc k)) ≡ getD s at 0 + 256 * number (part s (suc at) k)
+number-part : (s : List ℕ) (at k : ℕ) → at < length s → number (part s at (suc k)) ≡ getD s at 0 + 256 * number (part s (suc at) k)
 unfolding number part
 number-part s at k h = rw (drop-cons s at 0 h)
 
@@ -64,7 +64,7 @@ bytes-four d at n h =
 abbrev pub Bytes : List ℕ → Type 0
 Bytes l = (i : ℕ) → getD l i 0 < 256
 
-pub bytes-number : (l : List ℕ) → Bytes l → bytes (length l) (number l) ≡ l
+bytes-number : (l : List ℕ) → Bytes l → bytes (length l) (number l) ≡ l
 unfolding bytes number
 bytes-number [] h = refl
 bytes-number (x ∷ l) h =

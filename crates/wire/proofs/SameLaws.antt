@@ -28,7 +28,7 @@ same-eq (x ∷ xs) [] p = absurd (false≢true p)
 same-eq (x ∷ xs) (y ∷ ys) p =
     ap₂ (λ (h : ℕ) (t : List ℕ). h ∷ t) (eqb-true x y (both-left (eqb x y) (sameBytes xs ys) p)) (same-eq xs ys (both-right (eqb x y) (sameBytes xs ys) p))
 
-pub eq-same : (a b : List ℕ) → a ≡ b → sameBytes a b ≡ true
+eq-same : (a b : List ℕ) → a ≡ b → sameBytes a b ≡ true
 eq-same a b p = rw p (same-refl b)
 
 pub ne-same : (a b : List ℕ) → (a ≡ b → ⊥) → sameBytes a b ≡ false

@@ -5,7 +5,9 @@ use mathlib.Core.List.{List, [], _∷_, _++_}
 use Prim.Native.Nat.{ℕ, suc, _+_, _*_, _<_, _≤_}
 use native.Mathlib.Omega.{arith}
 use lib.Dec.{eqb}
-use lib.ListN.{length}
+use lib.ListN.{length, getD}
+use mir.Syntax.{w8}
+use mir.Val.{Fits}
 use borrow.Author.Tests.{eq-eqb, ne-eqb, eqb-true, eqb-false}
 use Rattle.laws.specs.Choice.{by-bool}
 use Rattle.laws.specs.Splice.{part, length-part, part-add}
@@ -31,12 +33,13 @@ number-same (x ∷ a) (y ∷ b) e h k =
     digit-same x y (number a) (number b) (h 0) (k 0)
     ∙ ap (λ (t : Bool). eqb x y && t) (number-same a b (omega arith) (λ i. h (suc i)) (λ i. k (suc i)))
 
--- as the code's need asks it
-pub words-same : (s t : List ℕ) (at from m n : ℕ) → Bytes s → Bytes t → at + 4 ≤ length s → from + 4 ≤ length t → m ≡ number (part s at 4) → n ≡ number (part t from 4)
-    → eqb m n ≡ sameBytes (part s at 4) (part t from 4)
+-- as the code's need asks it, with what is known of a slice's elements
+pub words-same : (s t : List ℕ) (at from m n : ℕ) → ((i : ℕ) → Fits w8 (getD s i 0)) → ((i : ℕ) → Fits w8 (getD t i 0)) → at + 4 ≤ length s → from + 4 ≤ length t
+    → m ≡ number (part s at 4) → n ≡ number (part t from 4) → eqb m n ≡ sameBytes (part s at 4) (part t from 4)
 words-same s t at from m n h k p q e f =
     rw (e, f)
-    (number-same (part s at 4) (part t from 4) (length-part s at 4 p ∙ sym (length-part t from 4 q)) (bytes-part s at 4 h p) (bytes-part t from 4 k q))
+    (number-same (part s at 4) (part t from 4) (length-part s at 4 p ∙ sym (length-part t from 4 q))
+    (bytes-part s at 4 (λ i. h i .fits) p) (bytes-part t from 4 (λ i. k i .fits) q))
 
 -- ---- parts side by side
 

@@ -1,5 +1,5 @@
 -- `request_cases::block_line` meets its contract. Assumes nothing.
-use Rattle.case_lines.specs.Lines.{block-by}
+use Rattle.case_lines.proofs.LinesLaws.{block-by}
 use borrow.Author.Needs.{needs}
 use Rattle.request_cases.proofs.block_line.Statement.{statement}
 use Rattle.request_cases.proofs.block_line.Tie as tie

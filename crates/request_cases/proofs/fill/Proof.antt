@@ -4,7 +4,8 @@ use Prim.Native.Nat.{_≤_, _<_, _-_, _*_, _%_}
 use lib.ListN.{length}
 use Rattle.laws.specs.Splice.{splice}
 use Rattle.laws.specs.Fill.{listTo}
-use Rattle.case_lines.specs.Lines.{patternAt, pattern-loop}
+use Rattle.case_lines.specs.Lines.{patternAt}
+use Rattle.case_lines.proofs.LinesLaws.{pattern-loop}
 use Rattle.request_cases.proofs.fill.Statement.{statement}
 use Rattle.request_cases.proofs.fill.Tie as tie
 

@@ -1,5 +1,5 @@
 -- `request_cases::put_header` meets its contract. Assumes nothing.
-use Rattle.case_lines.specs.Lines.{headed-by}
+use Rattle.case_lines.proofs.LinesLaws.{headed-by}
 use borrow.Author.Needs.{needs}
 use Rattle.request_cases.proofs.put_header.Statement.{statement}
 use Rattle.request_cases.proofs.put_header.Tie as tie

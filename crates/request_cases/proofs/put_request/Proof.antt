@@ -1,5 +1,5 @@
 -- `request_cases::put_request` meets its contract. Assumes nothing.
-use Rattle.case_lines.specs.Lines.{request-by}
+use Rattle.case_lines.proofs.LinesLaws.{request-by}
 use borrow.Author.Needs.{needs}
 use Rattle.request_cases.proofs.put_request.Statement.{statement}
 use Rattle.request_cases.proofs.put_request.Tie as tie

@@ -1,5 +1,5 @@
 -- `case_lines::alter::count_line` meets its contract. Assumes nothing.
-use Rattle.case_lines.specs.Lines.{count-by}
+use Rattle.case_lines.proofs.LinesLaws.{count-by}
 use borrow.Author.Needs.{needs}
 use Rattle.case_lines.proofs.alter.count_line.Statement.{statement}
 use Rattle.case_lines.proofs.alter.count_line.Tie as tie

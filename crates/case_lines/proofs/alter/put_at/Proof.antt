@@ -1,5 +1,5 @@
 -- `case_lines::alter::put_at` meets its contract. Assumes nothing.
-use Rattle.case_lines.specs.Lines.{lent-part}
+use Rattle.case_lines.proofs.LinesLaws.{lent-part}
 use borrow.Author.Needs.{needs}
 use Rattle.case_lines.proofs.alter.put_at.Statement.{statement}
 use Rattle.case_lines.proofs.alter.put_at.Tie as tie

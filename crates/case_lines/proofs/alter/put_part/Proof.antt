@@ -1,5 +1,5 @@
 -- `case_lines::alter::put_part` meets its contract. Assumes nothing.
-use Rattle.case_lines.specs.Lines.{part-by}
+use Rattle.case_lines.proofs.LinesLaws.{part-by}
 use borrow.Author.Needs.{needs}
 use Rattle.case_lines.proofs.alter.put_part.Statement.{statement}
 use Rattle.case_lines.proofs.alter.put_part.Tie as tie

@@ -2,7 +2,8 @@
 use mathlib.Core.Path.{_≡_}
 use Prim.Native.Nat.{_≤_, _-_}
 use lib.ListN.{length}
-use Rattle.case_lines.specs.Digest.{steps, byteStep, steps-loop}
+use Rattle.case_lines.specs.Digest.{steps, byteStep}
+use Rattle.case_lines.proofs.DigestLaws.{steps-loop}
 use Rattle.case_lines.proofs.digests.digest.Statement.{statement}
 use Rattle.case_lines.proofs.digests.digest.Tie as tie
 

@@ -1,7 +1,8 @@
 -- `case_lines::digests::mixed_phys` meets its contract. Assumes nothing.
 use mathlib.Core.Path.{_≡_}
 use Prim.Native.Nat.{_≤_, _-_}
-use Rattle.case_lines.specs.Digest.{steps, phyStep, steps-loop}
+use Rattle.case_lines.specs.Digest.{steps, phyStep}
+use Rattle.case_lines.proofs.DigestLaws.{steps-loop}
 use Rattle.case_lines.proofs.digests.mixed_phys.Statement.{statement}
 use Rattle.case_lines.proofs.digests.mixed_phys.Tie as tie
 

@@ -2,7 +2,8 @@
 use mathlib.Core.Path.{_≡_}
 use Prim.Native.Nat.{_≤_, _-_}
 use lib.ListN.{length}
-use Rattle.case_lines.specs.Fields.{indexOf, cut-loop}
+use Rattle.case_lines.specs.Fields.{indexOf}
+use Rattle.case_lines.proofs.FieldsLaws.{cut-loop}
 use Rattle.case_lines.proofs.line.end.Statement.{statement}
 use Rattle.case_lines.proofs.line.end.Tie as tie
 

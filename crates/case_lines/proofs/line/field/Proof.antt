@@ -1,6 +1,6 @@
 -- `case_lines::line::field` meets its contract. Assumes nothing.
 use borrow.Author.Needs.{needs}
-use Rattle.case_lines.specs.Fields.{field-by}
+use Rattle.case_lines.proofs.FieldsLaws.{field-by}
 use Rattle.case_lines.proofs.line.field.Statement.{statement}
 use Rattle.case_lines.proofs.line.field.Tie as tie
 

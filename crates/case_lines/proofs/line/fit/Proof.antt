@@ -1,6 +1,6 @@
 -- `case_lines::line::fit` meets its contract. Assumes nothing.
 use borrow.Author.Needs.{needs}
-use Rattle.case_lines.specs.Patch.{fit-none, fit-room, fit-all}
+use Rattle.case_lines.proofs.PatchLaws.{fit-none, fit-room, fit-all}
 use Rattle.case_lines.proofs.line.fit.Statement.{statement}
 use Rattle.case_lines.proofs.line.fit.Tie as tie
 

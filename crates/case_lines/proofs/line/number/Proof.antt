@@ -2,7 +2,8 @@
 use mathlib.Core.Path.{_≡_}
 use Prim.Native.Nat.{_<_, _-_, _%_}
 use lib.ListN.{length, drop}
-use Rattle.case_lines.specs.Fields.{numberOf, decimal, number-loop}
+use Rattle.case_lines.specs.Fields.{numberOf, decimal}
+use Rattle.case_lines.proofs.FieldsLaws.{number-loop}
 use Rattle.case_lines.proofs.line.number.Statement.{statement}
 use Rattle.case_lines.proofs.line.number.Tie as tie
 

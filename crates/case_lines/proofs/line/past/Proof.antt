@@ -1,5 +1,5 @@
 -- `case_lines::line::past` meets its contract. Assumes nothing.
-use Rattle.case_lines.specs.Fields.{cut-loop}
+use Rattle.case_lines.proofs.FieldsLaws.{cut-loop}
 use Rattle.case_lines.proofs.line.past.Statement.{statement}
 use Rattle.case_lines.proofs.line.past.Tie as tie
 

@@ -3,7 +3,8 @@ use mathlib.Core.Path.{_≡_}
 use Prim.Native.Nat.{_-_}
 use lib.ListN.{length, drop}
 use Rattle.case_lines.specs.Fields.{words}
-use Rattle.case_lines.specs.Patch.{patched, putAll, puts-loop}
+use Rattle.case_lines.specs.Patch.{patched, putAll}
+use Rattle.case_lines.proofs.PatchLaws.{puts-loop}
 use Rattle.case_lines.proofs.line.patch.Statement.{statement}
 use Rattle.case_lines.proofs.line.patch.Tie as tie
 

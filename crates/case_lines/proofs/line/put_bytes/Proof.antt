@@ -4,7 +4,8 @@ use Prim.Native.Nat.{_≤_, _-_}
 use lib.ListN.{length}
 use Rattle.laws.specs.Splice.{splice}
 use Rattle.laws.specs.Fill.{listTo}
-use Rattle.case_lines.specs.Patch.{byteAt, put-loop}
+use Rattle.case_lines.specs.Patch.{byteAt}
+use Rattle.case_lines.proofs.PatchLaws.{put-loop}
 use Rattle.case_lines.proofs.line.put_bytes.Statement.{statement}
 use Rattle.case_lines.proofs.line.put_bytes.Tie as tie
 

@@ -1,6 +1,6 @@
 -- `case_lines::line::put_word` meets its contract. Assumes nothing.
 use borrow.Author.Needs.{needs}
-use Rattle.case_lines.specs.Patch.{word-by}
+use Rattle.case_lines.proofs.PatchLaws.{word-by}
 use Rattle.case_lines.proofs.line.put_word.Statement.{statement}
 use Rattle.case_lines.proofs.line.put_word.Tie as tie
 

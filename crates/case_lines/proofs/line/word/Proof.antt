@@ -2,7 +2,8 @@
 use mathlib.Core.Path.{_≡_}
 use Prim.Native.Nat.{_≤_, _-_}
 use lib.ListN.{length, drop}
-use Rattle.case_lines.specs.Fields.{fromWord, cut-loop}
+use Rattle.case_lines.specs.Fields.{fromWord}
+use Rattle.case_lines.proofs.FieldsLaws.{cut-loop}
 use Rattle.case_lines.proofs.line.word.Statement.{statement}
 use Rattle.case_lines.proofs.line.word.Tie as tie
 

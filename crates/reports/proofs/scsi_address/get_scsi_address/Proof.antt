@@ -1,6 +1,6 @@
 -- `reports::scsi_address::get_scsi_address` meets its contract. Assumes nothing.
 use Rattle.reports.specs.ScsiAddress.{scsiAddress}
-use borrow.Author.Needs.{needs}
+use Rattle.reports.proofs.ConversionLaws.{conversion}
 use Rattle.reports.proofs.scsi_address.get_scsi_address.Statement.{statement}
 use Rattle.reports.proofs.scsi_address.get_scsi_address.Tie as tie
 
@@ -8,5 +8,8 @@ pub get-scsi-address-spec : {M : Type 1} → statement M
 unfolding scsiAddress
 get-scsi-address-spec =
     tie.close
-    (tie.spec (λ c κs. search needs) (λ c. search needs) (λ c κs. search needs) (λ c κs. search needs) (λ c. search needs)
-    (λ c. cc))
+    (tie.spec (λ c κs. search conversion) (λ c. search conversion) (λ c. search conversion) (λ c. search conversion)
+    (λ c. search conversion) (λ c. search conversion) (λ c. search conversion) (λ c. search conversion)
+    (λ c κs. search conversion) (λ c. search conversion) (λ c. search conversion) (λ c. search conversion)
+    (λ c κs. search conversion) (λ c. search conversion) (λ c. search conversion) (λ c. search conversion)
+    (λ c. search conversion))
