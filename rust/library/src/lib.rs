@@ -1,9 +1,9 @@
-//! The three functions of the proved static library, over slices. All `unsafe` code of this workspace is here.
+//! The five functions of the proved static library, over slices. All `unsafe` code of this workspace is here.
 
 /// The bytes of a state; `include/ascheknopf.h` says what each is.
 pub const STATE_SIZE: usize = 4785;
 
-/// A line of the record that `run` writes: two numbers of 32 bits.
+/// A line of the record that `run` and `run_both` write: two numbers of 32 bits.
 pub mod record {
     /// The call's number.
     pub const NUMBER: usize = 0;
@@ -14,42 +14,21 @@ pub mod record {
     pub const NO_CODE: u32 = 0xFFFF_FFFF;
 }
 
-mod interface {
-    extern "C" {
-        pub fn ascheknopf_open(
-            text: *const u8,
-            text_len: usize,
-            file: *const u8,
-            file_len: usize,
-            medium: *const u8,
-            medium_len: usize,
-            state: *mut u8,
-            state_len: usize,
-        ) -> u32;
-
-        pub fn ascheknopf_request(
-            state: *mut u8,
-            state_len: usize,
-            medium: *mut u8,
-            medium_len: usize,
-            buffer: *mut u8,
-            buffer_len: usize,
-        ) -> u32;
-
-        pub fn ascheknopf_run(
-            text: *const u8,
-            text_len: usize,
-            file: *const u8,
-            file_len: usize,
-            medium: *mut u8,
-            medium_len: usize,
-            session: *mut u8,
-            session_len: usize,
-            record: *mut u8,
-            record_len: usize,
-        ) -> usize;
-    }
+/// What stands before each request of a session of both headers: three numbers of 32 bits.
+pub mod frame {
+    /// Which header the request has.
+    pub const HEADER: usize = 0;
+    /// The control code of a Linux request; 0 with the first header.
+    pub const CONTROL: usize = 4;
+    /// The length of the request.
+    pub const LENGTH: usize = 8;
+    pub const SIZE: usize = 12;
+    /// The first header, SRB_IO_CONTROL.
+    pub const FIRST: u32 = 0;
+    pub const LINUX: u32 = 1;
 }
+
+mod interface;
 
 /// Opens an adapter: the call's number. 0 writes the state, a refusal the zero state; a state of another length than
 /// `STATE_SIZE` is 107 and stays.
@@ -85,6 +64,22 @@ pub fn request(state: &mut [u8], medium: &mut [u8], buffer: &mut [u8]) -> u32 {
     }
 }
 
+/// Handles one request with the Linux header, whose control code stands beside the buffer: the call's number. The rest is as of `request`.
+pub fn request_linux(state: &mut [u8], medium: &mut [u8], control: u32, buffer: &mut [u8]) -> u32 {
+    // As above; all three slices are written.
+    unsafe {
+        interface::ascheknopf_request_linux(
+            state.as_mut_ptr(),
+            state.len(),
+            medium.as_mut_ptr(),
+            medium.len(),
+            control,
+            buffer.as_mut_ptr(),
+            buffer.len(),
+        )
+    }
+}
+
 /// Opens, and handles the requests of a session in place, with a line of the record for each. Gives the number of requests
 /// handled.
 pub fn run(
@@ -97,6 +92,32 @@ pub fn run(
     // As above; medium, session and record are written.
     unsafe {
         interface::ascheknopf_run(
+            text.as_ptr(),
+            text.len(),
+            file.as_ptr(),
+            file.len(),
+            medium.as_mut_ptr(),
+            medium.len(),
+            session.as_mut_ptr(),
+            session.len(),
+            record.as_mut_ptr(),
+            record.len(),
+        )
+    }
+}
+
+/// The same for a session whose requests have either header, each with a `frame` before it. A frame of another header, or of the first
+/// with a control code, ends the session.
+pub fn run_both(
+    text: &[u8],
+    file: &[u8],
+    medium: &mut [u8],
+    session: &mut [u8],
+    record: &mut [u8],
+) -> usize {
+    // As above.
+    unsafe {
+        interface::ascheknopf_run_both(
             text.as_ptr(),
             text.len(),
             file.as_ptr(),

@@ -1,5 +1,7 @@
 //! Small inputs whose answers document 01 gives at a glance. Whole adapters are compared in `rust/differential`.
 
+mod linux;
+
 use super::*;
 use model::codes::control;
 use model::layout::file::{self, BLOCK, CHECK};

@@ -1,5 +1,10 @@
 //! Fields inside byte strings: "numbers little-endian unless it says MSB".
 
+/// The little-endian number in bytes `at` and `at + 1`.
+pub fn u16_at(bytes: &[u8], at: usize) -> u16 {
+    u16::from_le_bytes(array_at(bytes, at))
+}
+
 /// The little-endian number in bytes `at` to `at + 3`.
 pub fn u32_at(bytes: &[u8], at: usize) -> u32 {
     u32::from_le_bytes(array_at(bytes, at))

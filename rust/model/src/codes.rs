@@ -25,8 +25,8 @@ pub mod call {
     pub const STATE: u32 = 107;
 }
 
-/// The return code in bytes 20 to 23: from "changed" on, each is one lower than document 01
-/// prints it.
+/// The return code, which the header has a place for: from "changed" on, each is one lower than
+/// document 01 prints it.
 pub mod status {
     pub const SUCCESS: u32 = 0;
     pub const BAD_CNTL_CODE: u32 = 2;
@@ -44,6 +44,12 @@ pub mod status {
     pub const NO_SATA_SIGNATURE: u32 = 2010;
     pub const NO_SCSI_ADDRESS: u32 = 2013;
     pub const NO_DEVICE_ADDRESS: u32 = 2014;
+}
+
+/// The Direction of a Linux header.
+pub mod direction {
+    pub const DATA_READ: u16 = 0;
+    pub const DATA_WRITE: u16 = 1;
 }
 
 /// Attached device types.

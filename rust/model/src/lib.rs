@@ -1,8 +1,9 @@
 //! A SAS host adapter as a console sees it: an independent implementation of document 01,
 //! to be compared with the proved one.
 //!
-//! Two calls: [`open`] an adapter, and handle one [`request`]; the latter also in its two parts,
-//! [`tested`] and [`answer`]. The modules follow the document's parts, each resting on the ones
+//! Two calls: [`open`] an adapter, and handle one [`request`], or one with the Linux header,
+//! [`request_linux`]; these also in their two parts, [`tested`] and then [`answer`] or
+//! [`answer_linux`]. The modules follow the document's parts, each resting on the ones
 //! before it: level, rates, state, link, fields, disk, file, request. `codes` and `layout` hold
 //! the numbers and the offsets; `state_bytes` gives the state as bytes.
 
@@ -25,5 +26,5 @@ mod state_bytes;
 mod tests;
 
 pub use file::{block_check, open};
-pub use request::{answer, denied, request, tested};
+pub use request::{answer, answer_linux, denied, request, request_linux, tested};
 pub use state::{Phy, Row, State};

@@ -18,6 +18,17 @@ pub mod header {
     pub const SIZE: usize = 28;
 }
 
+/// The Linux header (4.2.3.1): 18 bytes, and two that are ignored.
+pub mod linux_header {
+    pub const CONTROLLER_NUMBER: usize = 0;
+    pub const LENGTH: usize = 4;
+    pub const RETURN_CODE: usize = 8;
+    pub const TIMEOUT: usize = 12;
+    pub const DIRECTION: usize = 16;
+    pub const IGNORED: usize = 18;
+    pub const SIZE: usize = 20;
+}
+
 /// Code 20: the phy count's word, and the phys.
 pub mod phy_info {
     pub const PHYS: usize = 4;

@@ -1,4 +1,4 @@
-//! The header: the checks of the buffer before the level.
+//! The first header: the checks of the buffer before the level.
 
 use super::control::Control;
 use crate::bytes::u32_at;
@@ -44,8 +44,9 @@ pub fn admit(buffer: &[u8]) -> Result<Admitted, Refusal> {
 }
 
 /// "Length at least the structure's size without header (for 25: without bDataBuffer, plus
-/// uDataLength) and 28 + Length inside the buffer". `body` is the buffer after the header.
-fn length_is_sound(control: Control, length: u32, body: &[u8]) -> bool {
+/// uDataLength) and 28 + Length inside the buffer". `body` is the buffer after the header, which
+/// `length` does not count.
+pub fn length_is_sound(control: Control, length: u32, body: &[u8]) -> bool {
     let Ok(length) = usize::try_from(length) else {
         return false;
     };

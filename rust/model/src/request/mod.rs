@@ -1,26 +1,53 @@
-//! One request: the order of its checks, and the eight control codes.
+//! One request, with either header: the order of its checks, and the eight control codes.
 
 mod addresses;
 mod control;
 mod header;
 mod link_errors;
+mod linux;
 mod passthrough;
 mod phys;
 mod reports;
+mod service;
 mod set_phy_info;
 
 use crate::codes::{call, status};
 use crate::disk;
 use crate::fields;
-use crate::layout::header::{LENGTH, RETURN_CODE, SIZE};
+use crate::layout::{header as first_header, linux_header};
 use crate::state::State;
 use control::Control;
-use header::{admit, Admitted, Refusal};
+use header::{Admitted, Refusal};
+
+/// What a reply goes by: the header's size, and the place of its return code.
+struct Form {
+    size: usize,
+    return_code: usize,
+}
+
+const FIRST: Form = Form {
+    size: first_header::SIZE,
+    return_code: first_header::RETURN_CODE,
+};
+
+const LINUX: Form = Form {
+    size: linux_header::SIZE,
+    return_code: linux_header::RETURN_CODE,
+};
 
 /// Handles one request: the call's number.
 pub fn request(state: &mut State, medium: &mut [u8], buffer: &mut [u8]) -> u32 {
     match tested(state, medium) {
         Ok(()) => answer(state, medium, buffer),
+        Err(number) => number,
+    }
+}
+
+/// Handles one request with the Linux header, "with the control code .. handed in beside the
+/// buffer": the call's number.
+pub fn request_linux(state: &mut State, medium: &mut [u8], control: u32, buffer: &mut [u8]) -> u32 {
+    match tested(state, medium) {
+        Ok(()) => answer_linux(state, medium, control, buffer),
         Err(number) => number,
     }
 }
@@ -39,53 +66,46 @@ pub fn tested(state: &State, medium: &[u8]) -> Result<(), u32> {
 /// A request from the third check on, for a caller that has made the first two. They still pass
 /// after it, so that a run may make them once. Where they fail it may answer anything, or panic.
 pub fn answer(state: &mut State, medium: &mut [u8], buffer: &mut [u8]) -> u32 {
-    let code = match admit(buffer) {
-        Err(Refusal::Call(number)) => return number,
-        Err(Refusal::Code(code)) => code,
-        Ok(admitted) if is_denied(&admitted, state) => status::WRITE_ATTEMPTED,
-        Ok(admitted) => match serve(admitted.control, state, medium, &mut buffer[SIZE..]) {
-            Ok(code) | Err(code) => code,
-        },
+    let permitted = match header::admit(buffer) {
+        Ok(admitted) if is_denied(&admitted, state) => Err(Refusal::Code(status::WRITE_ATTEMPTED)),
+        Ok(admitted) => Ok(admitted.control),
+        Err(refusal) => Err(refusal),
     };
-    buffer[RETURN_CODE..LENGTH].copy_from_slice(&code.to_le_bytes());
-    call::DONE
+    reply(FIRST, permitted, state, medium, buffer)
 }
 
-/// "A request is denied if it passes all before the level and its need is above it."
+/// The same of a request with the Linux header: these "are never denied".
+pub fn answer_linux(state: &mut State, medium: &mut [u8], control: u32, buffer: &mut [u8]) -> u32 {
+    let permitted = linux::admit(control, buffer);
+    reply(LINUX, permitted, state, medium, buffer)
+}
+
+/// "A request is denied if it passes all before the level and its need is above it." One with the
+/// Linux header never is.
 pub fn denied(state: &State, medium: &[u8], buffer: &[u8]) -> bool {
-    tested(state, medium).is_ok() && admit(buffer).is_ok_and(|admitted| is_denied(&admitted, state))
+    tested(state, medium).is_ok()
+        && header::admit(buffer).is_ok_and(|admitted| is_denied(&admitted, state))
 }
 
 fn is_denied(admitted: &Admitted, state: &State) -> bool {
     admitted.need as u8 > state.level
 }
 
-/// "then the code's own checks", and its work: the return code, and `Err` if a check gave it.
-/// `body` is the buffer after the header.
-fn serve(
-    control: Control,
+/// Serves what is permitted, and writes the return code.
+fn reply(
+    form: Form,
+    permitted: Result<Control, Refusal>,
     state: &mut State,
     medium: &mut [u8],
-    body: &mut [u8],
-) -> Result<u32, u32> {
-    match control {
-        Control::DriverInfo => reports::driver_info(state, structure(body)?),
-        Control::GetPhyInfo => reports::get_phy_info(state, structure(body)?),
-        Control::SetPhyInfo => set_phy_info::set_phy_info(state, structure(body)?),
-        Control::LinkErrors => link_errors::link_errors(state, structure(body)?),
-        Control::StpPassthrough => {
-            let (parameters, data) = body
-                .split_first_chunk_mut()
-                .ok_or(status::INVALID_PARAMETER)?;
-            passthrough::stp_passthrough(state, medium, parameters, data)
-        }
-        Control::SataSignature => reports::sata_signature(state, structure(body)?),
-        Control::ScsiAddress => addresses::scsi_address(state, structure(body)?),
-        Control::DeviceAddress => addresses::device_address(state, structure(body)?),
-    }
-}
-
-/// The structure at the start of the body, which the Length check has found there.
-fn structure<const SIZE: usize>(body: &mut [u8]) -> Result<&mut [u8; SIZE], u32> {
-    body.first_chunk_mut().ok_or(status::INVALID_PARAMETER)
+    buffer: &mut [u8],
+) -> u32 {
+    let code = match permitted {
+        Err(Refusal::Call(number)) => return number,
+        Err(Refusal::Code(code)) => code,
+        Ok(control) => match service::serve(control, state, medium, &mut buffer[form.size..]) {
+            Ok(code) | Err(code) => code,
+        },
+    };
+    buffer[form.return_code..][..4].copy_from_slice(&code.to_le_bytes());
+    call::DONE
 }

@@ -43,7 +43,7 @@ impl Numbers {
     }
 
     /// A body for the code, near to one that is served.
-    fn body(&mut self, code: u32) -> Vec<u8> {
+    pub fn body(&mut self, code: u32) -> Vec<u8> {
         match code {
             25 => {
                 let command = match self.below(3) {
@@ -130,7 +130,7 @@ fn any_state_and_buffer() {
     }
 }
 
-fn spoil(state: &mut State, numbers: &mut Numbers) {
+pub fn spoil(state: &mut State, numbers: &mut Numbers) {
     let phy: &mut Phy = &mut state.phys[numbers.below(32)];
     let row: &mut Row = &mut state.rows[numbers.below(64)];
     match numbers.below(10) {

@@ -5,7 +5,7 @@ use crate::layout::entity;
 use crate::{denied, request, State};
 
 /// The smallest bodies that are served, by code.
-fn bodies() -> [(u32, Vec<u8>); 8] {
+pub fn bodies() -> [(u32, Vec<u8>); 8] {
     let row = row(1);
     [
         (1, vec![0; 174]),

@@ -1,0 +1,163 @@
+//! Requests with the Linux header, by the call and in a session of both headers.
+
+use super::*;
+use model::layout::linux_header as linux;
+
+/// A code 21 behind a Linux header: phy 0 disabled, 3.0 Gb/s alone, class 2.
+fn set_phy_info() -> [u8; linux::SIZE + set_phy_info::SIZE] {
+    let mut buffer = [0; linux::SIZE + set_phy_info::SIZE];
+    buffer[linux::LENGTH] = buffer.len() as u8;
+    buffer[linux::RETURN_CODE..linux::TIMEOUT].fill(OTHER);
+    buffer[linux::SIZE..][..5].copy_from_slice(&[0, 1, 9, 9, 2]);
+    buffer
+}
+
+/// The reply, with this return code.
+fn replied(code: u8) -> [u8; linux::SIZE + set_phy_info::SIZE] {
+    let mut reply = set_phy_info();
+    reply[linux::RETURN_CODE..linux::TIMEOUT].copy_from_slice(&[code, 0, 0, 0]);
+    reply
+}
+
+/// The state of a level after it.
+fn changed(level: u8) -> [u8; STATE_SIZE] {
+    let mut expected = state(level);
+    phy(&mut expected)[entity::SIGNAL_CLASS] = 2;
+    phy(&mut expected)[entity::NEGOTIATED..=entity::MAXIMUM].copy_from_slice(&[1, 0x98, 0x99]);
+    expected
+}
+
+/// A request of a session of both headers.
+fn framed(header: u32, control: u32, request: &[u8]) -> Vec<u8> {
+    let numbers = [header, control, request.len() as u32];
+    [numbers.map(u32::to_le_bytes).as_flattened(), request].concat()
+}
+
+/// A run at level None over a session; the number handled, the session and the record afterwards.
+fn ran(session: &[u8]) -> (usize, Vec<u8>, [u8; 3 * record::SIZE]) {
+    let (mut session, mut medium) = (session.to_vec(), [0; DISK]);
+    let mut record = [OTHER; 3 * record::SIZE];
+    let text = b"CSMI=None;";
+    let handled = run_both(text, &file(), &mut medium, &mut session, &mut record);
+    (handled, session, record)
+}
+
+#[test]
+fn a_linux_request_is_served_at_every_level() {
+    for level in 0..=3 {
+        let (mut held, mut medium, mut buffer) = (state(level), [0; DISK], set_phy_info());
+        let code = control::SET_PHY_INFO;
+        assert_eq!(request_linux(&mut held, &mut medium, code, &mut buffer), 0);
+        assert_eq!((buffer, held), (replied(0), changed(level)));
+    }
+}
+
+#[test]
+fn the_answers_to_a_linux_request_in_their_order() {
+    let (mut held, mut medium) = (state(4), [0; DISK]);
+    assert_eq!(request_linux(&mut held, &mut [], 0, &mut []), 107);
+    held = state(0);
+    assert_eq!(request_linux(&mut held, &mut medium[1..], 0, &mut []), 106);
+    let mut short = [OTHER; linux::SIZE - 1];
+    assert_eq!(request_linux(&mut held, &mut medium, 0, &mut short), 100);
+    let mut code_of = |control, change: fn(&mut [u8])| {
+        let mut buffer = set_phy_info();
+        change(&mut buffer);
+        assert_eq!(
+            request_linux(&mut held, &mut medium, control, &mut buffer),
+            0
+        );
+        assert_eq!(held, state(0));
+        buffer[linux::RETURN_CODE]
+    };
+    // Direction before the code, and the code before Length
+    assert_eq!(code_of(2, |buffer| buffer[linux::DIRECTION] = 2), 3);
+    assert_eq!(code_of(2, |buffer| buffer[linux::LENGTH] = 0), 2);
+    assert_eq!(code_of(21, |buffer| buffer[linux::LENGTH] += 1), 3);
+}
+
+#[test]
+fn a_state_of_another_length_is_107_to_a_linux_request() {
+    for length in [0, 1, STATE_SIZE - 1, STATE_SIZE + 1] {
+        let mut held = vec![OTHER; length];
+        let (mut medium, mut buffer) = ([0; DISK], set_phy_info());
+        assert_eq!(request_linux(&mut held, &mut medium, 21, &mut buffer), 107);
+        assert_eq!((held, buffer), (vec![OTHER; length], set_phy_info()));
+    }
+}
+
+/// With the first header denied, with the other served; each return code stands in its own place.
+#[test]
+fn a_session_of_both_headers() {
+    let mut first = [0; header::SIZE + set_phy_info::SIZE];
+    first[header::HEADER_LENGTH] = header::SIZE as u8;
+    first[header::SIGNATURE..header::TIMEOUT].copy_from_slice(b"CSMISAS\0");
+    first[header::CONTROL_CODE] = control::SET_PHY_INFO as u8;
+    first[header::LENGTH] = set_phy_info::SIZE as u8;
+    let mut denied = first;
+    denied[header::RETURN_CODE] = 4;
+    let session = [
+        framed(frame::FIRST, 0, &first),
+        framed(frame::LINUX, 21, &set_phy_info()),
+        framed(frame::LINUX, 21, &[OTHER; 19]),
+    ];
+    let expected = [
+        framed(frame::FIRST, 0, &denied),
+        framed(frame::LINUX, 21, &replied(0)),
+        framed(frame::LINUX, 21, &[OTHER; 19]),
+    ];
+    let lines = [[0, 4], [0, 0], [100, record::NO_CODE]];
+    let record: Vec<u8> = lines
+        .as_flattened()
+        .iter()
+        .flat_map(|number| number.to_le_bytes())
+        .collect();
+    let (handled, after, lines) = ran(&session.concat());
+    assert_eq!(
+        (handled, after, &lines[..]),
+        (3, expected.concat(), &record[..])
+    );
+}
+
+/// Another header, the first with a control code, a request cut short: it and what follows stay.
+#[test]
+fn what_ends_a_session_of_both_headers() {
+    let linux = framed(frame::LINUX, 21, &set_phy_info());
+    let ends = [
+        framed(2, 21, &set_phy_info()),
+        framed(u32::MAX, 0, &set_phy_info()),
+        framed(frame::FIRST, 21, &set_phy_info()),
+        linux[..linux.len() - 1].to_vec(),
+        linux[..frame::SIZE - 1].to_vec(),
+    ];
+    for end in ends {
+        let rest = if end.len() < linux.len() {
+            &[]
+        } else {
+            &linux[..]
+        };
+        let session = [&linux[..], &end, rest].concat();
+        let (handled, after, record) = ran(&session);
+        assert_eq!(handled, 1);
+        assert_eq!(after[linux.len()..], session[linux.len()..]);
+        assert_eq!(after[frame::SIZE..linux.len()], replied(0));
+        assert_eq!(record[..record::SIZE], [0; record::SIZE]);
+        assert_eq!(record[record::SIZE..], [OTHER; 2 * record::SIZE]);
+    }
+}
+
+#[test]
+fn after_a_refused_opening_both_headers_get_107() {
+    let requests = [
+        framed(frame::FIRST, 0, &[]),
+        framed(frame::LINUX, 21, &set_phy_info()),
+    ];
+    let session = requests.concat();
+    let (mut after, mut record) = (session.clone(), [OTHER; 2 * record::SIZE]);
+    assert_eq!(run_both(&[], &[], &mut [], &mut after, &mut record), 2);
+    let line = [107, 0, 0, 0, 0xFF, 0xFF, 0xFF, 0xFF];
+    assert_eq!(
+        (after, record),
+        (session, [line; 2].concat().try_into().unwrap())
+    );
+}
