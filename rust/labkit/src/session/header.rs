@@ -28,13 +28,14 @@ const SRB_FIELDS: [Field; 6] = [
 const LINUX_SIZE: usize = 20;
 const LINUX_LENGTH: Field = number("length", 4, 4);
 const LINUX_RETURN_CODE: Field = number("return-code", 8, 4);
-const LINUX_DIRECTION: Field = number("direction", 16, 2);
+/// The direction of the data, in the Linux header.
+pub const DIRECTION: Field = number("direction", 16, 2);
 const LINUX_FIELDS: [Field; 6] = [
     number("controller", 0, 4),
     LINUX_LENGTH,
     LINUX_RETURN_CODE,
     number("timeout", 12, 4),
-    LINUX_DIRECTION,
+    DIRECTION,
     bytes("ignored", 18, 2),
 ];
 
@@ -115,7 +116,7 @@ fn linux(control: u32, body: &[u8]) -> [u8; LINUX_SIZE] {
     let length = (LINUX_SIZE + body.len()) as u32;
     header[LINUX_LENGTH.at..][..4].copy_from_slice(&length.to_le_bytes());
     header[TIMEOUT.0] = TIMEOUT.1;
-    header[LINUX_DIRECTION.at] = direction(control, body);
+    header[DIRECTION.at] = direction(control, body);
     header
 }
 

@@ -13,6 +13,7 @@ pub struct Layout {
     pub fields: &'static [Field],
 }
 
+pub const DRIVER_INFO: u32 = 1;
 /// The control code that changes a phy.
 pub const SET_PHY_INFO: u32 = 21;
 /// The control code whose structure ends with a data buffer, where the command stands in it, and uDataLength.
@@ -23,7 +24,7 @@ pub const DATA_LENGTH: Field = number("data-length", 40, 4);
 /// The structure of a control code. A code without a table here has no named fields.
 pub fn layout(control: u32) -> Layout {
     let (signature, size, fields): (_, _, &'static [Field]) = match control {
-        1 => ("CSMIALL", 174, &DRIVER),
+        DRIVER_INFO => ("CSMIALL", 174, &DRIVER),
         2 => ("CSMIALL", 176, &[]),
         3 => ("CSMIALL", 36, &[]),
         4 => ("CSMIALL", 44, &[]),

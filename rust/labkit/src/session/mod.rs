@@ -10,8 +10,8 @@ mod request;
 
 pub use describe::describe_request;
 pub use form::{Form, MOST_REQUEST};
-pub use header::{srb, Header};
-pub use layout::{layout, Layout, STP_PASSTHRU};
+pub use header::{srb, Header, DIRECTION};
+pub use layout::{layout, Layout, DRIVER_INFO, STP_PASSTHRU};
 
 use crate::Fault;
 
