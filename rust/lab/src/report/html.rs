@@ -12,7 +12,7 @@ use labkit::report::{request_words, Difference};
 
 const STYLE: &str = include_str!("page.css");
 /// Of a page with Linux requests: those that need more than a level.
-const LINUX_STYLE: &str = "tr.above > td { background: #fdc; }\ntr.above > td:first-child, tr.differs.above > td:first-child { border-left: .4em solid #c80; font-weight: bold; }\n";
+const LINUX_STYLE: &str = include_str!("linux.css");
 
 pub fn html(marking: &Marking) -> String {
     let title = plain(&format!("Mark of {}", marking.exercise.name));

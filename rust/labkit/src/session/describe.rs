@@ -84,7 +84,8 @@ fn by_fields(request: &Request) -> Option<String> {
         header.fields(),
     ));
     words.extend(differences(&given, &sound, layout.fields));
-    if layout.fields.is_empty() && given.iter().any(|b| *b != 0) {
+    let zeros = given.iter().all(|b| *b == 0) && given.len() == layout.size;
+    if layout.fields.is_empty() && !zeros {
         words.push(format!("body={}", show_bytes(&given)));
     }
     if !data.is_empty() {
@@ -144,6 +145,7 @@ get-device-address host=1 target=3
 phy-control
 get-cntlr-status body=FF+00*35
 request control=99
+request control=99 body=00*9
 request signature=\"CSMIALL\" control=99 length=7 body=0102
 raw 010203
 raw
@@ -160,7 +162,7 @@ linux get-sata-signature phy=3 buffer=22
 linux get-cntlr-status body=FF+00*35
 linux request
 linux request control=99
-linux request control=CC770014h body=0102
+linux request control=CC770014h body=00*2052
 linux raw control=22 010203
 linux raw control=CC770016h
 linux raw
