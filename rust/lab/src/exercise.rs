@@ -14,6 +14,7 @@ pub struct Exercise {
     pub name: String,
     pub adapter: Part,
     pub session: Part,
+    /// How the requests stand in the session's bytes.
     pub form: Form,
     /// The level texts of the runs in order: the lower and the higher, or all four.
     pub texts: Vec<Text>,

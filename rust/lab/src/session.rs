@@ -22,8 +22,8 @@ fn described(folder: &Path) -> Result<(Part, Form), String> {
     let form = Form::of(&text).map_err(|fault| at(&path, fault))?;
     let bytes = form.parse(&text).map_err(|fault| at(&path, fault))?;
     let mut warnings = Vec::new();
-    for (form, name) in BINARIES {
-        let made = form.parse(&text).ok();
+    for (other, name) in binaries(folder) {
+        let made = other.parse(&text).ok();
         warnings.extend(beside(&path, &folder.join(name), made.as_deref())?);
     }
     let from = TEXT.to_string();
@@ -35,23 +35,26 @@ fn described(folder: &Path) -> Result<(Part, Form), String> {
     Ok((part, form))
 }
 
+/// The binaries that are there.
+fn binaries(folder: &Path) -> Vec<(Form, &'static str)> {
+    let there = |(_, name): &(Form, &str)| folder.join(name).exists();
+    BINARIES.into_iter().filter(there).collect()
+}
+
 /// The one binary that is there.
 fn binary(folder: &Path) -> Result<(Part, Form), String> {
-    let there = |(_, name): &(Form, &str)| folder.join(name).exists();
-    let found: Vec<(Form, &str)> = BINARIES.into_iter().filter(there).collect();
-    match found[..] {
+    let shown = shown(folder);
+    match binaries(folder)[..] {
         [(form, name)] => {
             let mut part = as_it_is(folder, name)?;
             part.warnings.extend(other_form(form, &part.bytes));
             Ok((part, form))
         }
         [] => Err(format!(
-            "{} has none of session.txt, session and session.both",
-            shown(folder)
+            "{shown} has none of session.txt, session and session.both"
         )),
         _ => Err(format!(
-            "{} has session and session.both, and no session.txt; remove the one that is not to run",
-            shown(folder)
+            "{shown} has session and session.both, and no session.txt; remove the one that is not to run"
         )),
     }
 }

@@ -27,7 +27,7 @@ labkit reply --both REQUESTS REPLIES N
 labkit reply --linux CODE REQUEST REPLY
                                 the reply to a Linux request with that control code, a number or a name
 
-'-' for the last file of adapter and session writes to standard output
+'-' for the last file of adapter, adapter-text, session and session-text writes to standard output
 ";
 
 fn main() -> ExitCode {

@@ -82,23 +82,16 @@ impl Form {
 
     /// The header and the length that stand before a request, or why they end the session.
     fn announced(self, before: &[u8]) -> Result<(Header, usize), String> {
-        let numbers: Vec<u32> = before.chunks_exact(4).map(number).collect();
-        match (self, &numbers[..]) {
-            (Form::Program, [length]) if *length as usize > MOST_REQUEST => {
+        let length = number(before, before.len() - 4);
+        match self {
+            Form::Program if length as usize > MOST_REQUEST => {
                 Err(format!("its length says {length}, over {MOST_REQUEST}"))
             }
-            (Form::Program, [length]) => Ok((Header::Srb, *length as usize)),
-            (Form::Both, [FIRST_HEADER, 0, length]) => Ok((Header::Srb, *length as usize)),
-            (Form::Both, [FIRST_HEADER, control, _]) => Err(format!(
-                "it has the first header, and the control code before it is {control}, where 0 has to stand"
+            Form::Program => Ok((Header::Srb, length as usize)),
+            Form::Both => Ok((
+                header(number(before, 0), number(before, 4))?,
+                length as usize,
             )),
-            (Form::Both, [LINUX_HEADER, control, length]) => {
-                Ok((Header::Linux { control: *control }, *length as usize))
-            }
-            (Form::Both, [header, ..]) => Err(format!(
-                "its header is {header}, which is neither 0, the first, nor 1, Linux's"
-            )),
-            _ => Err("it is cut".to_string()),
         }
     }
 
@@ -138,8 +131,24 @@ impl Form {
     }
 }
 
-fn number(bytes: &[u8]) -> u32 {
-    bytes.iter().rev().fold(0, |n, b| n << 8 | u32::from(*b))
+/// The header that its number and the control code behind it give, or why there is none.
+fn header(number: u32, control: u32) -> Result<Header, String> {
+    match (number, control) {
+        (FIRST_HEADER, 0) => Ok(Header::Srb),
+        (FIRST_HEADER, _) => Err(format!(
+            "it has the first header, and the control code before it is {control}, where 0 has to stand"
+        )),
+        (LINUX_HEADER, _) => Ok(Header::Linux { control }),
+        _ => Err(format!(
+            "its header is {number}, which is neither 0, the first, nor 1, Linux's"
+        )),
+    }
+}
+
+/// The four bytes at a place as a number.
+fn number(bytes: &[u8], at: usize) -> u32 {
+    let four = bytes[at..at + 4].iter().rev();
+    four.fold(0, |n, b| n << 8 | u32::from(*b))
 }
 
 #[cfg(test)]
