@@ -1,7 +1,7 @@
 //! What a reply says first: the call's number or the return code, and of an ATA command its status and error.
 
 use labkit::names;
-use labkit::session::{control_code, layout, HEADER, RETURN_CODE, STP_PASSTHRU};
+use labkit::session::{layout, Header, STP_PASSTHRU};
 
 /// The beginning of a reply. Two replies with the same answer may still differ in other bytes.
 #[derive(Debug, Clone, Copy, PartialEq, Eq)]
@@ -11,23 +11,25 @@ pub struct Answer {
     pub code: Option<u32>,
     /// Status and error of the status FIS, of a code 25 with return code 0.
     pub ata: Option<(u8, u8)>,
+    denied: bool,
 }
 
 impl Answer {
-    pub fn of(call: u32, reply: &[u8]) -> Answer {
-        let header = reply.get(..HEADER).filter(|_| call == 0);
-        let code = header.map(|header| RETURN_CODE.get(header));
-        let passed = code == Some(0) && control_code(reply) == Some(STP_PASSTHRU);
+    pub fn of(header: Header, call: u32, reply: &[u8]) -> Answer {
+        let control = header.control(reply).filter(|_| call == 0);
+        let code = control.map(|_| header.return_code().get(reply));
+        let passed = code == Some(0) && control == Some(STP_PASSTHRU);
         Answer {
             call,
             code,
-            ata: passed.then(|| status(&reply[HEADER..])).flatten(),
+            ata: passed.then(|| status(&reply[header.size()..])).flatten(),
+            denied: code == Some(names::DENIED) && header == Header::Srb,
         }
     }
 
-    /// Return code 4, with which the library answers a request whose need is above the level.
+    /// Return code 4, with which the library answers a request whose need is above the level. It denies no Linux request.
     pub fn is_denied(&self) -> bool {
-        self.code == Some(names::DENIED)
+        self.denied
     }
 
     /// The numbers with their names.
@@ -53,39 +55,48 @@ fn status(body: &[u8]) -> Option<(u8, u8)> {
 #[cfg(test)]
 mod tests {
     use super::*;
+    use labkit::session::Form;
+
+    fn answer(call: u32, line: &str) -> Answer {
+        let session = Form::Both.parse(line).unwrap();
+        let request = Form::Both.split(&session).requests[0];
+        Answer::of(request.header, call, request.buffer)
+    }
 
     fn words(call: u32, line: &str) -> String {
-        let reply = &labkit::session::parse(line).unwrap()[4..];
-        Answer::of(call, reply).words()
+        answer(call, line).words()
     }
 
     #[test]
     fn answers_in_words() {
         assert_eq!(words(100, "raw 0102"), "call 100 buffer too short");
-        assert_eq!(
-            words(0, "get-phy-info return-code=2002"),
-            "2002 phy does not exist"
-        );
         let fis = "stp-passthru command=20h status-fis=340051+04+00*16";
-        assert_eq!(words(0, fis), "0 success; ATA 51h 04h error, aborted");
         let refused = "stp-passthru command=20h return-code=2008 status-fis=340051+04+00*16";
-        assert_eq!(words(0, refused), "2008 connection failed");
+        for word in ["", "linux "] {
+            let words = |line: &str| words(0, &format!("{word}{line}"));
+            assert_eq!(
+                words("get-phy-info return-code=2002"),
+                "2002 phy does not exist"
+            );
+            assert_eq!(words(fis), "0 success; ATA 51h 04h error, aborted");
+            assert_eq!(words(refused), "2008 connection failed");
+        }
     }
 
     #[test]
-    fn denied_is_return_code_4_and_nothing_else() {
-        let sent = &labkit::session::parse("set-phy-info return-code=4").unwrap()[4..];
-        assert!(Answer::of(0, sent).is_denied());
-        assert!(!Answer::of(107, sent).is_denied());
-        assert!(!Answer::of(4, &sent[..20]).is_denied());
+    fn denied_is_return_code_4_of_the_first_header_and_nothing_else() {
+        assert!(answer(0, "set-phy-info return-code=4").is_denied());
+        assert!(!answer(107, "set-phy-info return-code=4").is_denied());
+        assert!(!answer(4, "set-phy-info return-code=4 buffer=20").is_denied());
+        assert!(!answer(0, "linux set-phy-info return-code=4").is_denied());
     }
 
     #[test]
     fn short_replies() {
         for length in 0..200 {
-            let sent = &labkit::session::parse("stp-passthru data=00*40").unwrap()[4..];
-            let answer = Answer::of(0, &sent[..length]);
-            assert_eq!(answer.code.is_some(), length >= 28);
+            let code = |line: &str| answer(0, &format!("{line} buffer={length}")).code;
+            assert_eq!(code("stp-passthru data=00*40").is_some(), length >= 28);
+            assert_eq!(code("linux stp-passthru").is_some(), length >= 20);
         }
     }
 }

@@ -1,12 +1,14 @@
-//! Two runs beside those that are shown. They ask the library what the mark rests on.
+//! Runs beside those that are shown. They ask the library what the mark rests on.
 
+use crate::asked::Asked;
 use crate::row::Row;
 use crate::run::Run;
+use labkit::session::Request;
 
-/// At level None the library denies exactly the requests that get past their header's checks. And it is proved that a higher run
-/// without the requests denied in the lower one gets the lower one's replies and leaves what it left.
+/// It is asked whether requests get past their header's checks. And it is proved that a higher run without the requests denied in the
+/// lower one gets the lower one's replies and leaves what it left.
 pub struct Beside {
-    none: Run,
+    asked: Asked,
     past_header: bool,
     without: Option<Run>,
     same: bool,
@@ -16,18 +18,22 @@ impl Beside {
     /// A run at None, and where two levels are compared a second one at the higher, both just opened.
     pub fn new(none: Run, without: Option<Run>) -> Beside {
         Beside {
-            none,
+            asked: Asked::new(none),
             past_header: false,
             without,
             same: true,
         }
     }
 
+    /// Which runs, that come to a request now, are below what it needs, if it is a Linux one.
+    pub fn above(&mut self, request: &Request, runs: &[Run]) -> Vec<bool> {
+        self.asked.above(request, runs)
+    }
+
     /// Goes on with a request that the lower run has just handled.
-    pub fn handle(&mut self, request: &[u8], row: &Row, low: &Run) {
+    pub fn handle(&mut self, request: &Request, row: &Row, low: &Run) {
         if !self.past_header {
-            self.none.handle(request);
-            self.past_header = self.none.answer().is_denied();
+            self.past_header = self.asked.passes(request);
         }
         if let Some(without) = &mut self.without {
             if !row.answers[0].is_denied() {

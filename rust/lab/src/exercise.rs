@@ -2,10 +2,11 @@
 //! that an edited text is what runs.
 
 use crate::files::{part, read, shown, Part};
-use crate::level;
 use crate::options::Options;
+use crate::{level, session};
+use labkit::adapter;
 use labkit::names::LEVELS;
-use labkit::{adapter, session};
+use labkit::session::Form;
 use std::fs;
 use std::path::Path;
 
@@ -13,6 +14,8 @@ pub struct Exercise {
     pub name: String,
     pub adapter: Part,
     pub session: Part,
+    /// How the requests stand in the session's bytes.
+    pub form: Form,
     /// The level texts of the runs in order: the lower and the higher, or all four.
     pub texts: Vec<Text>,
     pub disks: Option<Part>,
@@ -38,10 +41,13 @@ impl Exercise {
             true => LEVELS.map(all_levels).into(),
             false => vec![text(folder, "low")?, text(folder, "high")?],
         };
+        let adapter = part(folder, "adapter.txt", "adapter.bin", adapter::parse)?;
+        let (session, form) = session::read(folder)?;
         Ok(Exercise {
             name: options.name.clone(),
-            adapter: part(folder, "adapter.txt", "adapter.bin", adapter::parse)?,
-            session: part(folder, "session.txt", "session", session::parse)?,
+            adapter,
+            session,
+            form,
             texts,
             disks: options.disks.as_deref().map(disks).transpose()?,
         })
@@ -59,7 +65,7 @@ impl Exercise {
     pub fn warnings(&self) -> impl Iterator<Item = &String> {
         [&self.adapter, &self.session]
             .into_iter()
-            .filter_map(|part| part.warning.as_ref())
+            .flat_map(|part| &part.warnings)
     }
 
     /// Byte 0 of the adapter file.
@@ -109,6 +115,6 @@ fn disks(path: &Path) -> Result<Part, String> {
     Ok(Part {
         from: shown(path),
         bytes: read(path)?,
-        warning: None,
+        warnings: Vec::new(),
     })
 }

@@ -10,7 +10,7 @@ pub struct Part {
     pub from: String,
     pub bytes: Vec<u8>,
     /// What is to be said about it.
-    pub warning: Option<String>,
+    pub warnings: Vec<String>,
 }
 
 /// Files that were written within this time are taken for copied together: which is newer says nothing.
@@ -39,39 +39,49 @@ pub fn part(
 ) -> Result<Part, String> {
     let (described, made) = (folder.join(text), folder.join(binary));
     if described.exists() {
-        let bytes = described_bytes(&described, parse)?;
-        let warning = beside(&described, &made, &bytes)?;
-        let from = text.to_string();
+        let bytes = parse(&words(&described)?).map_err(|fault| at(&described, fault))?;
+        let warning = beside(&described, &made, Some(&bytes))?;
         return Ok(Part {
-            from,
+            from: text.to_string(),
             bytes,
-            warning,
+            warnings: Vec::from_iter(warning),
         });
     }
     if !made.exists() {
         let folder = shown(folder);
         return Err(format!("{folder} has neither {text} nor {binary}"));
     }
+    as_it_is(folder, binary)
+}
+
+/// A file's own bytes.
+pub fn as_it_is(folder: &Path, name: &str) -> Result<Part, String> {
     Ok(Part {
-        from: binary.to_string(),
-        bytes: read(&made)?,
-        warning: None,
+        from: name.to_string(),
+        bytes: read(&folder.join(name))?,
+        warnings: Vec::new(),
     })
 }
 
-fn described_bytes(
-    path: &Path,
-    parse: impl Fn(&str) -> Result<Vec<u8>, Fault>,
-) -> Result<Vec<u8>, String> {
-    let words = String::from_utf8(read(path)?)
-        .map_err(|_| format!("{} is not a text in UTF-8; save it as one", shown(path)))?;
-    parse(&words).map_err(|fault| format!("{}: {fault}", shown(path)))
+/// A description.
+pub fn words(path: &Path) -> Result<String, String> {
+    String::from_utf8(read(path)?)
+        .map_err(|_| format!("{} is not a text in UTF-8; save it as one", shown(path)))
 }
 
-/// What is to be said of a binary beside a description that makes other bytes. One that was put there later is refused: who did that
-/// means it to run.
-fn beside(described: &Path, made: &Path, bytes: &[u8]) -> Result<Option<String>, String> {
-    if !made.exists() || read(made).is_ok_and(|old| old == bytes) {
+/// A fault in a description.
+pub fn at(path: &Path, fault: Fault) -> String {
+    format!("{}: {fault}", shown(path))
+}
+
+/// What is to be said of a binary beside a description that makes other bytes, or none of its form. One that was put there later is
+/// refused: who did that means it to run.
+pub fn beside(
+    described: &Path,
+    made: &Path,
+    bytes: Option<&[u8]>,
+) -> Result<Option<String>, String> {
+    if !made.exists() || read(made).is_ok_and(|old| Some(&old[..]) == bytes) {
         return Ok(None);
     }
     let name = |path: &Path| shown(Path::new(path.file_name().unwrap_or_default()));

@@ -1,15 +1,17 @@
 //! The lab's command: reads an exercise, runs it through the proved library, and shows both runs with their mark. The front
 //! `lab` in the repository's root builds this program and names the shipped sample to it.
 //!
-//! Exit status: 0 no difference, 1 differences, 2 no mark. What stops it before there is anything to show is one line on
-//! standard error, with status 2.
+//! Exit status: 0 no difference, 1 differences or Linux requests that need more than the low level, 2 no mark. What stops it before
+//! there is anything to show is one line on standard error, with status 2.
 
 mod answer;
+mod asked;
 mod beside;
 mod exercise;
 mod files;
 mod left;
 mod level;
+mod linux;
 mod marking;
 mod options;
 mod progress;
@@ -17,6 +19,7 @@ mod replies;
 mod report;
 mod row;
 mod run;
+mod session;
 mod state;
 mod verdict;
 

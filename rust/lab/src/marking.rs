@@ -4,19 +4,22 @@ use crate::beside::Beside;
 use crate::exercise::Exercise;
 use crate::left::{self, Group, Left};
 use crate::level;
+use crate::linux;
 use crate::progress::Progress;
 use crate::replies::Replies;
 use crate::row::Row;
 use crate::run::Run;
 use crate::verdict;
 use labkit::adapter::{warnings as adapter_warnings, PROGRAM_PHYS};
-use labkit::session::{control_code, split, Session, HEADER, STP_PASSTHRU};
+use labkit::session::{Request, Session, STP_PASSTHRU};
 use std::collections::HashSet;
 use std::path::Path;
 
 pub struct Marking<'a> {
     pub exercise: &'a Exercise,
-    pub requests: Vec<&'a [u8]>,
+    pub requests: Vec<Request<'a>>,
+    /// How many of them have the Linux header.
+    pub linux: usize,
     /// The runs as they ended.
     pub runs: Vec<Run>,
     pub rows: Vec<Row>,
@@ -33,7 +36,7 @@ pub struct Marking<'a> {
 impl<'a> Marking<'a> {
     /// Runs an exercise; the replies go to a folder if one is named.
     pub fn of(exercise: &'a Exercise, folder: Option<&Path>) -> Result<Marking<'a>, String> {
-        let session = split(&exercise.session.bytes);
+        let session = exercise.form.split(&exercise.session.bytes);
         let medium = exercise.medium();
         let open = |run, text: &[u8]| Run::open(run, text, &exercise.adapter.bytes, &medium);
         let runs: Vec<Run> = exercise
@@ -42,8 +45,10 @@ impl<'a> Marking<'a> {
             .map(|text| open(text.run, &text.bytes))
             .collect();
         let no_mark = verdict::before(exercise, &runs, &session);
+        let linux = |request: &&Request| request.header.is_linux();
         let mut marking = Marking {
             exercise,
+            linux: session.requests.iter().filter(linux).count(),
             cut: where_cut(&session, exercise),
             warnings: warnings(exercise, &runs, &session),
             requests: session.requests,
@@ -57,7 +62,8 @@ impl<'a> Marking<'a> {
             let two = exercise.texts.len() == 2;
             let without = two.then(|| open("high", &exercise.texts[1].bytes));
             let beside = Beside::new(open("None", b"CSMI=None;"), without);
-            let replies = folder.map(|folder| Replies::create(folder, &marking.runs));
+            let replies =
+                folder.map(|folder| Replies::create(folder, exercise.form, &marking.runs));
             marking.run(beside, replies.transpose()?)?;
         }
         Ok(marking)
@@ -67,8 +73,9 @@ impl<'a> Marking<'a> {
     fn run(&mut self, mut beside: Beside, mut replies: Option<Replies>) -> Result<(), String> {
         let mut progress = Progress::new(self.requests.len());
         for (i, request) in self.requests.iter().enumerate() {
+            let above = beside.above(request, &self.runs);
             self.runs.iter_mut().for_each(|run| run.handle(request));
-            let row = Row::of(&self.runs);
+            let row = Row::of(&self.runs, above);
             beside.handle(request, &row, &self.runs[0]);
             if let Some(replies) = &mut replies {
                 replies.add(request, &self.runs)?;
@@ -80,6 +87,7 @@ impl<'a> Marking<'a> {
         self.left = self.left_behind();
         self.explained = beside.explained(&self.runs[0]);
         self.no_mark = verdict::after(beside.past_header(), self.explained);
+        self.warnings.extend(linux::warning(self));
         replies.map_or(Ok(()), Replies::end)
     }
 
@@ -101,6 +109,16 @@ impl<'a> Marking<'a> {
             .count()
     }
 
+    /// Whether some request has the Linux header.
+    pub fn has_linux(&self) -> bool {
+        self.linux > 0
+    }
+
+    /// How many Linux requests need more than the level of a run. It grants them, as Full.
+    pub fn above(&self, run: usize) -> usize {
+        self.rows.iter().filter(|row| row.is_above(run)).count()
+    }
+
     /// How many replies differ between two runs.
     pub fn between(&self, one: usize, other: usize) -> usize {
         let differs = |row: &&Row| row.differs_between(one, other);
@@ -117,9 +135,10 @@ impl<'a> Marking<'a> {
         (self.left.len() - sectors, sectors)
     }
 
-    /// 0 no difference, 1 differences, 2 no mark.
+    /// 0 no difference, 1 differences or Linux requests that need more than the lowest level, 2 no mark.
     pub fn status(&self) -> u8 {
-        match (&self.no_mark, self.differing() + self.left.len()) {
+        let seen = self.differing() + self.left.len() + self.above(0);
+        match (&self.no_mark, seen) {
             (Some(_), _) => 2,
             (None, 0) => 0,
             (None, _) => 1,
@@ -152,8 +171,8 @@ fn warnings(exercise: &Exercise, runs: &[Run], session: &Session) -> Vec<String>
 
 /// The SAS addresses that the session sends ATA commands to.
 fn addresses<'a>(session: &Session<'a>) -> HashSet<&'a [u8]> {
-    let passed = |request: &&&[u8]| control_code(request) == Some(STP_PASSTHRU);
-    let destination = |request: &&'a [u8]| request.get(HEADER + 4..HEADER + 12);
+    let passed = |request: &&Request| request.control() == Some(STP_PASSTHRU);
+    let destination = |request: &Request<'a>| request.body()?.get(4..12);
     session
         .requests
         .iter()

@@ -1,13 +1,15 @@
-//! The requests and each run's replies written out, in the form of a session, and beside them the numbers as the program prints
+//! The requests and each run's replies written out, in the form of the session, and beside them the numbers as the program prints
 //! them. `labkit reply` and `labkit session-text` read the first, `labkit compare` the second.
 
 use crate::files::shown;
 use crate::run::Run;
+use labkit::session::{Form, Request};
 use std::fs::{self, File};
 use std::io::{BufWriter, Write};
 use std::path::{Path, PathBuf};
 
 pub struct Replies {
+    form: Form,
     requests: Out,
     /// The replies and the numbers of each run.
     runs: Vec<(Out, Out)>,
@@ -20,29 +22,35 @@ struct Out {
 }
 
 impl Replies {
-    pub fn create(folder: &Path, runs: &[Run]) -> Result<Replies, String> {
+    pub fn create(folder: &Path, form: Form, runs: &[Run]) -> Result<Replies, String> {
         fs::create_dir_all(folder).map_err(|error| fault(folder, error))?;
+        let end = match form {
+            Form::Program => "",
+            Form::Both => ".both",
+        };
         let mut opened = Vec::new();
         for run in runs {
             let name = run.name.to_lowercase();
-            let replies = Out::create(folder.join(format!("{name}.replies")))?;
+            let replies = Out::create(folder.join(format!("{name}.replies{end}")))?;
             let mut codes = Out::create(folder.join(format!("{name}.codes")))?;
             codes.write(b"request call code\n")?;
             opened.push((replies, codes));
         }
         Ok(Replies {
-            requests: Out::create(folder.join("requests"))?,
+            form,
+            requests: Out::create(folder.join(format!("requests{end}")))?,
             runs: opened,
             written: 0,
         })
     }
 
     /// Adds a request and the last replies of the runs.
-    pub fn add(&mut self, request: &[u8], runs: &[Run]) -> Result<(), String> {
+    pub fn add(&mut self, request: &Request, runs: &[Run]) -> Result<(), String> {
         self.written += 1;
-        self.requests.sized(request)?;
+        self.requests.add(self.form, request)?;
         for ((replies, codes), run) in self.runs.iter_mut().zip(runs) {
-            replies.sized(&run.reply)?;
+            let (header, buffer) = (request.header, &run.reply);
+            replies.add(self.form, &Request { header, buffer })?;
             let code = run
                 .answer()
                 .code
@@ -75,10 +83,11 @@ impl Out {
             .map_err(|error| fault(&self.path, error))
     }
 
-    /// A length, then so many bytes.
-    fn sized(&mut self, bytes: &[u8]) -> Result<(), String> {
-        self.write(&(bytes.len() as u32).to_le_bytes())?;
-        self.write(bytes)
+    /// A request as it stands in a session.
+    fn add(&mut self, form: Form, request: &Request) -> Result<(), String> {
+        let mut session = Vec::new();
+        form.add(&mut session, request)?;
+        self.write(&session)
     }
 
     fn end(mut self) -> Result<(), String> {

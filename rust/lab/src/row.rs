@@ -16,11 +16,13 @@ pub struct Row {
     pub behind: bool,
     /// Parts of the replies that differ: where runs with the same answer gave other replies, between these; else between all.
     pub differences: Vec<Difference>,
+    /// Of a Linux request that got past its header's checks: for each run, whether it needs more than the run's level.
+    above: Vec<bool>,
 }
 
 impl Row {
-    /// The last request of the runs.
-    pub fn of(runs: &[Run]) -> Row {
+    /// The last request of the runs, and which of them were below what it needs.
+    pub fn of(runs: &[Run], above: Vec<bool>) -> Row {
         let like: Vec<usize> = runs
             .iter()
             .map(|run| first(runs, |other| run.replied_as(other)))
@@ -36,17 +38,24 @@ impl Row {
             like,
             behind,
             differences: Vec::new(),
+            above,
         };
         if row.differs() {
             let replies: Vec<&[u8]> = runs.iter().map(|run| run.reply.as_slice()).collect();
             let all = vec![0; runs.len()];
-            row.differences = differences(&replies, if behind { &alike } else { &all }, PARTS);
+            let like = if behind { &alike } else { &all };
+            row.differences = differences(runs[0].header, &replies, like, PARTS);
         }
         row
     }
 
     pub fn differs(&self) -> bool {
         self.like.iter().any(|first| *first != 0)
+    }
+
+    /// Whether a Linux request needs more than the level of a run.
+    pub fn is_above(&self, run: usize) -> bool {
+        self.above.get(run).is_some_and(|above| *above)
     }
 
     /// Whether the replies of two runs differ.

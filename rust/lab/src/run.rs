@@ -1,9 +1,11 @@
-//! One run: an adapter opened at a level, and requests one after the other, by the library's two calls.
+//! One run: an adapter opened at a level, and requests one after the other, each by the library's call for its header.
 
 use crate::answer::Answer;
 use crate::state;
+use labkit::session::{Header, Request};
 
 /// A run as far as it has come.
+#[derive(Clone)]
 pub struct Run {
     /// `low`, `high`, or the level's name where all four run.
     pub name: &'static str,
@@ -11,7 +13,8 @@ pub struct Run {
     pub opening: u32,
     pub state: Vec<u8>,
     pub medium: Vec<u8>,
-    /// The reply to the last request: the call's number and the whole buffer.
+    /// The header of the last request, and its reply: the call's number and the whole buffer.
+    pub header: Header,
     pub call: u32,
     pub reply: Vec<u8>,
 }
@@ -24,6 +27,7 @@ impl Run {
             opening: library::open(text, adapter, medium, &mut opened),
             state: opened,
             medium: medium.to_vec(),
+            header: Header::Srb,
             call: 0,
             reply: Vec::new(),
         }
@@ -35,14 +39,25 @@ impl Run {
     }
 
     /// Handles a request, in a buffer of its own.
-    pub fn handle(&mut self, request: &[u8]) {
+    pub fn handle(&mut self, request: &Request) {
+        self.header = request.header;
         self.reply.clear();
-        self.reply.extend_from_slice(request);
-        self.call = library::request(&mut self.state, &mut self.medium, &mut self.reply);
+        self.reply.extend_from_slice(request.buffer);
+        let (state, medium, reply) = (&mut self.state, &mut self.medium, &mut self.reply);
+        self.call = match request.header {
+            Header::Srb => library::request(state, medium, reply),
+            Header::Linux { control } => library::request_linux(state, medium, control, reply),
+        };
     }
 
     pub fn answer(&self) -> Answer {
-        Answer::of(self.call, &self.reply)
+        Answer::of(self.header, self.call, &self.reply)
+    }
+
+    /// Takes the state and the medium of another run.
+    pub fn become_like(&mut self, other: &Run) {
+        self.state.clone_from(&other.state);
+        self.medium.clone_from(&other.medium);
     }
 
     /// Whether the last replies of two runs are the same: the call's number and the whole buffer.

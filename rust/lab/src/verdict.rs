@@ -4,7 +4,7 @@ use crate::exercise::Exercise;
 use crate::run::Run;
 use crate::state::DISK;
 use labkit::names::{call_words, level_name};
-use labkit::session::{Session, MOST_REQUEST};
+use labkit::session::Session;
 
 const BAD_TEXT: u32 = 101;
 const MEDIUM_LENGTH: u32 = 106;
@@ -67,26 +67,14 @@ fn refusal(exercise: &Exercise, text: &str, number: u32) -> String {
 /// Where a session is cut: behind so many requests, of which the bytes before the tail consist.
 pub fn cut(session: &Session, before: usize) -> String {
     let number = session.requests.len() + 1;
-    let tail = session.tail;
-    let why = match tail.split_first_chunk::<4>() {
-        None => format!("of its length of 4 bytes there are {}", tail.len()),
-        Some((length, rest)) => match u32::from_le_bytes(*length) as usize {
-            length if length > MOST_REQUEST => {
-                format!("its length says {length}, over {MOST_REQUEST}")
-            }
-            length => format!(
-                "its length says {length} bytes, and there are {}",
-                rest.len()
-            ),
-        },
-    };
+    let why = session.form.why_cut(session.tail);
     format!("the session is cut at request {number}, byte {before}: {why}")
 }
 
 #[cfg(test)]
 mod tests {
     use super::*;
-    use labkit::session::split;
+    use labkit::session::{split, Form};
 
     #[test]
     fn runs_that_give_no_mark() {
@@ -113,6 +101,10 @@ mod tests {
         assert_eq!(
             said(&[1, 128, 0, 0, 9]),
             "the session is cut at request 1, byte 0: its length says 32769, over 32768"
+        );
+        assert_eq!(
+            cut(&Form::Both.split(&[2; 12]), 0),
+            "the session is cut at request 1, byte 0: its header is 33686018, which is neither 0, the first, nor 1, Linux's"
         );
     }
 }

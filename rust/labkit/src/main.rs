@@ -1,8 +1,9 @@
 //! The lab kit's commands. Faults go to standard error in one line, with status 1; bad use has status 2.
 
 use labkit::report::{self, Transcript};
+use labkit::session::{Form, Header, Request};
 use labkit::text::one_line;
-use labkit::{adapter, session, value};
+use labkit::{adapter, names, value};
 use std::env;
 use std::fs;
 use std::io::{ErrorKind, Write};
@@ -18,7 +19,15 @@ labkit session-text FILE TEXT   describes a session
 labkit reply REQUEST REPLY      shows a reply in words; both files hold a buffer in hexadecimal
 labkit reply REQUESTS REPLIES N shows reply N of files that './lab --replies FOLDER' writes
 labkit compare SESSION LOW HIGH shows the return codes that the program printed in two runs side by side
-'-' for the last file of the first five writes to standard output
+
+Of sessions whose requests have either header, as session.both has them:
+labkit session --both TEXT FILE
+labkit session-text --both FILE TEXT
+labkit reply --both REQUESTS REPLIES N
+labkit reply --linux CODE REQUEST REPLY
+                                the reply to a Linux request with that control code, a number or a name
+
+'-' for the last file of adapter, adapter-text, session and session-text writes to standard output
 ";
 
 fn main() -> ExitCode {
@@ -34,12 +43,20 @@ fn main() -> ExitCode {
     let done = match words[..] {
         ["adapter", "--library", from, to] => make_adapter(from, to, adapter::MOST_PHYS),
         ["adapter", from, to] => make_adapter(from, to, adapter::PROGRAM_PHYS),
-        ["session", from, to] => make(from, to, session::parse),
+        ["session", "--both", from, to] => make(from, to, Form::Both),
+        ["session", from, to] => make(from, to, Form::Program),
         ["adapter-text", from, to] => show(from, to, adapter::describe),
-        ["session-text", from, to] => show(from, to, |bytes| Ok(session::describe(bytes))),
+        ["session-text", "--both", from, to] => show_session(from, to, Form::Both),
+        ["session-text", from, to] => show_session(from, to, Form::Program),
         ["compare", session, low, high] => compare(session, low, high),
-        ["reply", request, reply] => show_reply(request, reply),
-        ["reply", requests, replies, number] => show_numbered(requests, replies, number),
+        ["reply", "--linux", code, request, reply] => show_linux_reply(code, request, reply),
+        ["reply", "--both", requests, replies, number] => {
+            show_numbered(Form::Both, requests, replies, number)
+        }
+        ["reply", request, reply] => show_reply(Header::Srb, request, reply),
+        ["reply", requests, replies, number] => {
+            show_numbered(Form::Program, requests, replies, number)
+        }
         ["help" | "--help" | "-h"] => write("-", USAGE.as_bytes()),
         _ => {
             say("no such command; 'labkit help' lists them");
@@ -75,14 +92,16 @@ fn make_adapter(from: &str, to: &str, most: usize) -> Result<(), String> {
     write(to, &file)
 }
 
-/// Makes bytes from a description.
-fn make(
-    from: &str,
-    to: &str,
-    parse: impl Fn(&str) -> Result<Vec<u8>, labkit::Fault>,
-) -> Result<(), String> {
-    let bytes = parse(&text(from)?).map_err(|fault| format!("{from}: {fault}"))?;
+/// Makes a session from its description.
+fn make(from: &str, to: &str, form: Form) -> Result<(), String> {
+    let bytes = form
+        .parse(&text(from)?)
+        .map_err(|fault| format!("{from}: {fault}"))?;
     write(to, &bytes)
+}
+
+fn show_session(from: &str, to: &str, form: Form) -> Result<(), String> {
+    show(from, to, |bytes| Ok(form.describe(bytes)))
 }
 
 /// Makes a description from bytes.
@@ -102,25 +121,42 @@ fn compare(session: &str, low: &str, high: &str) -> Result<(), String> {
     write("-", compared.table().as_bytes())
 }
 
-fn show_reply(request: &str, reply: &str) -> Result<(), String> {
-    let words = report::reply(&buffer(request)?, &buffer(reply)?)?;
+fn show_reply(header: Header, request: &str, reply: &str) -> Result<(), String> {
+    let words = report::reply(header, &buffer(request)?, &buffer(reply)?)?;
     write("-", words.as_bytes())
 }
 
+fn show_linux_reply(code: &str, request: &str, reply: &str) -> Result<(), String> {
+    let control = match names::control_code(code) {
+        Some(control) => control,
+        None => value::number(code, u64::from(u32::MAX))? as u32,
+    };
+    show_reply(Header::Linux { control }, request, reply)
+}
+
 /// One request and its reply, of files in the form of a session.
-fn show_numbered(requests: &str, replies: &str, number: &str) -> Result<(), String> {
+fn show_numbered(form: Form, requests: &str, replies: &str, number: &str) -> Result<(), String> {
     let number = value::number(number, u64::from(u32::MAX))? as usize;
     let (sent, got) = (read(requests)?, read(replies)?);
-    let find = |from: &str, bytes: &[u8]| {
-        let found = session::split(bytes).requests;
-        let count = found.len();
-        let buffer = number.checked_sub(1).and_then(|i| found.get(i));
-        buffer
-            .map(|buffer| buffer.to_vec())
-            .ok_or_else(|| format!("{from} has requests 1 to {count}, and no {number}"))
-    };
-    let words = report::reply(&find(requests, &sent)?, &find(replies, &got)?)?;
+    let sent = find(form, requests, &sent, number)?;
+    let got = find(form, replies, &got, number)?;
+    let words = report::reply(sent.header, sent.buffer, got.buffer)?;
     write("-", words.as_bytes())
+}
+
+/// Request n of a session.
+fn find<'a>(
+    form: Form,
+    from: &str,
+    session: &'a [u8],
+    number: usize,
+) -> Result<Request<'a>, String> {
+    let found = form.split(session).requests;
+    let request = number.checked_sub(1).and_then(|i| found.get(i));
+    let count = found.len();
+    request
+        .copied()
+        .ok_or_else(|| format!("{from} has requests 1 to {count}, and no {number}"))
 }
 
 /// A buffer in hexadecimal, blanks between its bytes or not.

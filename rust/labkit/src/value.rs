@@ -25,6 +25,14 @@ pub fn number(text: &str, most: u64) -> Result<u64, String> {
     }
 }
 
+/// A control code as `number` reads it: in decimal as CSMI has them, in hexadecimal as Linux numbers its own.
+pub fn show_code(code: u32) -> String {
+    match code {
+        0..=0xFFFF => code.to_string(),
+        _ => format!("{code:08X}h"),
+    }
+}
+
 /// Bytes in hexadecimal, with runs.
 pub fn bytes(text: &str) -> Result<Vec<u8>, String> {
     let mut found = Vec::new();
@@ -106,6 +114,19 @@ mod tests {
             assert!(
                 number(bad, 255).unwrap_err().contains("not a number"),
                 "{bad}"
+            );
+        }
+    }
+
+    #[test]
+    fn control_codes_and_back() {
+        assert_eq!(show_code(65_535), "65535");
+        assert_eq!(show_code(65_536), "00010000h");
+        assert_eq!(show_code(0xCC77_0014), "CC770014h");
+        for code in [0, 65_535, 65_536, u32::MAX] {
+            assert_eq!(
+                number(&show_code(code), u64::from(u32::MAX)),
+                Ok(code.into())
             );
         }
     }

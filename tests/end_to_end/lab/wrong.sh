@@ -20,7 +20,7 @@ try "no high.txt" lab_refuses "$dir/high.txt is missing; it holds a level text, 
 dir=$(exercise no_adapter) && rm "$dir/adapter.txt"
 try "no adapter" lab_refuses "$dir has neither adapter.txt nor adapter.bin" "$dir"
 dir=$(exercise no_session) && rm "$dir/session.txt"
-try "no session" lab_refuses "$dir has neither session.txt nor session" "$dir"
+try "no session" lab_refuses "$dir has none of session.txt, session and session.both" "$dir"
 dir=$(exercise bad_adapter) && echo "phy port=256" >"$dir/adapter.txt"
 try "a bad adapter.txt" lab_refuses "$dir/adapter.txt: line 1: port: 256 is over 255" "$dir"
 dir=$(exercise bad_session) && printf 'get-phy-info\nget-phys\n' >"$dir/session.txt"

@@ -2,19 +2,25 @@
 //! mark.
 
 use super::escape::csv as cell;
-use super::{group, verdict};
+use super::{group, header_key, verdict};
 use crate::left::GROUPS;
+use crate::linux;
 use crate::marking::Marking;
-use crate::row::Row;
 use labkit::report::request_words;
+
+/// The columns behind those of the runs; of a session with Linux requests two more.
+const ENDS: [&str; 2] = ["differs", "where"];
+const LINUX_ENDS: [&str; 2] = ["header", "denied under the first header"];
 
 pub fn csv(marking: &Marking) -> String {
     let names = marking.runs.iter().map(|run| run.name.to_string());
-    let ends = ["differs".to_string(), "where".to_string()];
+    let more = LINUX_ENDS.iter().filter(|_| marking.has_linux());
+    let ends: Vec<String> = ENDS.iter().chain(more).map(|end| end.to_string()).collect();
+    let count = 3 + marking.runs.len() + ends.len();
     let first = ["kind", "number", "what"].map(String::from);
-    let mut out = line(first.into_iter().chain(names).chain(ends));
-    for (i, (request, row)) in marking.requests.iter().zip(&marking.rows).enumerate() {
-        out.push_str(&of_row(i + 1, &request_words(request), row));
+    let mut out = line(count, first.into_iter().chain(names).chain(ends));
+    for i in 0..marking.rows.len() {
+        out.push_str(&line(count, of_row(marking, i).into_iter()));
     }
     for kind in GROUPS {
         for difference in group(marking, kind) {
@@ -24,31 +30,51 @@ pub fn csv(marking: &Marking) -> String {
                 difference.what.clone(),
             ];
             let values = difference.values.iter().cloned();
-            let ends = ["yes".to_string(), String::new()];
-            out.push_str(&line(first.into_iter().chain(values).chain(ends)));
+            let differs = ["yes".to_string()];
+            out.push_str(&line(count, first.into_iter().chain(values).chain(differs)));
         }
     }
-    if marking.no_mark.is_none() {
-        let first = ["denied", "", "requests denied"].map(String::from);
-        let counts = (0..marking.runs.len()).map(|i| marking.denied(i).to_string());
-        let ends = [String::new(), String::new()];
-        out.push_str(&line(first.into_iter().chain(counts).chain(ends)));
+    for (kind, what, number) in counts(marking) {
+        let first = [kind, "", what].map(String::from);
+        let numbers = (0..marking.runs.len()).map(|i| number(marking, i).to_string());
+        out.push_str(&line(count, first.into_iter().chain(numbers)));
     }
     for (kind, words) in notes(marking) {
-        let blank = std::iter::repeat_n(String::new(), marking.runs.len() + 2);
-        let first = [kind.to_string(), String::new(), words];
-        out.push_str(&line(first.into_iter().chain(blank)));
+        let cells = [kind.to_string(), String::new(), words];
+        out.push_str(&line(count, cells.into_iter()));
     }
     out
 }
 
-fn of_row(number: usize, words: &str, row: &Row) -> String {
-    let first = ["request".to_string(), number.to_string(), words.to_string()];
-    let answers = row.answers.iter().map(|answer| answer.words());
+/// The cells of a request.
+fn of_row(marking: &Marking, i: usize) -> Vec<String> {
+    let (request, row) = (&marking.requests[i], &marking.rows[i]);
+    let number = (i + 1).to_string();
+    let mut cells = vec!["request".to_string(), number, request_words(request)];
+    cells.extend(row.answers.iter().map(|answer| answer.words()));
     let names: Vec<&str> = row.differences.iter().map(|d| d.what.as_str()).collect();
     let differs = if row.differs() { "yes" } else { "no" };
-    let ends = [differs.to_string(), names.join("; ")];
-    line(first.into_iter().chain(answers).chain(ends))
+    cells.extend([differs.to_string(), names.join("; ")]);
+    if marking.has_linux() {
+        let deniers = linux::deniers(marking, row).join("; ");
+        cells.extend([header_key(request).to_string(), deniers]);
+    }
+    cells
+}
+
+type Count = fn(&Marking, usize) -> usize;
+
+/// The numbers of each run that the mark has.
+fn counts(marking: &Marking) -> Vec<(&'static str, &'static str, Count)> {
+    let mut found: Vec<(_, _, Count)> = Vec::new();
+    if marking.no_mark.is_none() {
+        found.push(("denied", "requests denied", |m, run| m.denied(run)));
+    }
+    if marking.no_mark.is_none() && marking.has_linux() {
+        let what = "Linux requests above the level";
+        found.push(("above", what, |m, run| m.above(run)));
+    }
+    found
 }
 
 /// The lines behind the table: warnings, a cut, and the mark or why there is none.
@@ -68,7 +94,9 @@ fn notes(marking: &Marking) -> Vec<(&'static str, String)> {
     found
 }
 
-fn line(cells: impl Iterator<Item = String>) -> String {
-    let cells: Vec<String> = cells.map(|text| cell(&text)).collect();
+/// A line of so many cells; those behind the given ones are empty.
+fn line(count: usize, cells: impl Iterator<Item = String>) -> String {
+    let mut cells: Vec<String> = cells.map(|text| cell(&text)).collect();
+    cells.resize(count, String::new());
     format!("{}\n", cells.join(","))
 }

@@ -2,7 +2,7 @@
 //! the counters, and the sectors that a run changed. It is fit to be printed.
 
 use super::escape::html as plain;
-use super::{explained, group, head, pairs, verdict};
+use super::{explained, group, head, pairs, remarks, verdict};
 use crate::left::{sectors, COUNTERS, GROUPS};
 use crate::marking::Marking;
 use crate::row::Row;
@@ -11,11 +11,14 @@ use labkit::adapter::PHY;
 use labkit::report::{request_words, Difference};
 
 const STYLE: &str = include_str!("page.css");
+/// Of a page with Linux requests: those that need more than a level.
+const LINUX_STYLE: &str = include_str!("linux.css");
 
 pub fn html(marking: &Marking) -> String {
     let title = plain(&format!("Mark of {}", marking.exercise.name));
+    let more = if marking.has_linux() { LINUX_STYLE } else { "" };
     let mut out = format!(
-        "<!DOCTYPE html>\n<html lang=\"en\">\n<head>\n<meta charset=\"utf-8\">\n<title>{title}</title>\n<style>\n{STYLE}</style>\n</head>\n<body>\n<h1>{title}</h1>\n"
+        "<!DOCTYPE html>\n<html lang=\"en\">\n<head>\n<meta charset=\"utf-8\">\n<title>{title}</title>\n<style>\n{STYLE}{more}</style>\n</head>\n<body>\n<h1>{title}</h1>\n"
     );
     out.push_str(&paragraph("mark", &verdict(marking)));
     for (name, words) in head(marking) {
@@ -43,7 +46,8 @@ fn section(title: &str, content: &str) -> String {
 fn requests(marking: &Marking) -> String {
     let mut rows = String::new();
     for (i, (request, row)) in marking.requests.iter().zip(&marking.rows).enumerate() {
-        rows.push_str(&of_row(i + 1, &request_words(request), row));
+        let remarks = remarks(marking, row);
+        rows.push_str(&of_row(i + 1, &request_words(request), row, &remarks));
     }
     let mut content = table(&heads(marking, &["no", "request"], &["differs"]), &rows);
     let notes = pairs(marking).into_iter().map(|(one, other, count)| {
@@ -66,7 +70,7 @@ fn requests(marking: &Marking) -> String {
 }
 
 /// A request's row, and below it a row for each part of the replies that differs.
-fn of_row(number: usize, request: &str, row: &Row) -> String {
+fn of_row(number: usize, request: &str, row: &Row, remarks: &str) -> String {
     let mut cells = vec![
         cell("number", &number.to_string()),
         cell("request", request),
@@ -76,8 +80,14 @@ fn of_row(number: usize, request: &str, row: &Row) -> String {
             .iter()
             .map(|answer| cell("answer", &answer.words())),
     );
-    cells.push(cell("word", if row.differs() { "differs" } else { "" }));
-    let mut out = line(if row.differs() { "differs" } else { "same" }, &cells);
+    cells.push(cell("word", remarks));
+    let class = match (row.differs(), row.is_above(0)) {
+        (true, true) => "differs above",
+        (true, false) => "differs",
+        (false, true) => "above",
+        (false, false) => "same",
+    };
+    let mut out = line(class, &cells);
     // the return code stands in the row itself
     let parts = row.differences.iter();
     for difference in parts.filter(|difference| difference.what != "return-code") {

@@ -1,13 +1,14 @@
 //! The report as JSON. Names stay; a member may be added.
 
 use super::escape::json as string;
-use super::{group, pairs, verdict};
+use super::{group, header_key, pairs, verdict};
 use crate::answer::Answer;
 use crate::left::GROUPS;
 use crate::marking::Marking;
 use crate::row::Row;
 use labkit::names::level_name;
 use labkit::report::{request_words, Difference};
+use labkit::session::Request;
 
 pub fn json(marking: &Marking) -> String {
     let members = [
@@ -40,7 +41,7 @@ pub fn json(marking: &Marking) -> String {
                     .iter()
                     .zip(&marking.rows)
                     .enumerate()
-                    .map(|(i, (sent, row))| request(i + 1, sent, row)),
+                    .map(|(i, (sent, row))| request(marking, i + 1, sent, row)),
             ),
         ),
         ("left", left(marking)),
@@ -70,23 +71,33 @@ pub fn json(marking: &Marking) -> String {
 fn run(marking: &Marking, i: usize) -> String {
     let (run, text) = (&marking.runs[i], &marking.exercise.texts[i]);
     let level = (run.opening == 0).then(|| level_name(run.level()));
-    object(&[
+    let mut members = vec![
         ("name", string(run.name)),
         ("text", string(&String::from_utf8_lossy(&text.bytes))),
         ("opening", run.opening.to_string()),
         ("level", optional(level)),
         ("denied", marking.denied(i).to_string()),
-    ])
+    ];
+    if marking.has_linux() {
+        members.push(("above", marking.above(i).to_string()));
+    }
+    object(&members)
 }
 
-fn request(number: usize, sent: &[u8], row: &Row) -> String {
-    object(&[
+fn request(marking: &Marking, number: usize, sent: &Request, row: &Row) -> String {
+    let mut members = vec![
         ("number", number.to_string()),
         ("request", string(&request_words(sent))),
         ("differs", row.differs().to_string()),
         ("answers", list(row.answers.iter().map(answer))),
         ("differences", list(row.differences.iter().map(difference))),
-    ])
+    ];
+    if marking.has_linux() {
+        let above = (0..marking.runs.len()).map(|run| row.is_above(run).to_string());
+        members.push(("header", string(header_key(sent))));
+        members.push(("above", list(above)));
+    }
+    object(&members)
 }
 
 fn answer(answer: &Answer) -> String {
@@ -135,16 +146,20 @@ fn mark(marking: &Marking) -> String {
         return "null".to_string();
     }
     let (values, sectors) = marking.left_counts();
-    object(&[
+    let each = |count: fn(&Marking, usize) -> usize| {
+        list((0..marking.runs.len()).map(|i| count(marking, i).to_string()))
+    };
+    let mut members = vec![
         ("differ", marking.differing().to_string()),
         ("of", marking.rows.len().to_string()),
-        (
-            "denied",
-            list((0..marking.runs.len()).map(|i| marking.denied(i).to_string())),
-        ),
+        ("denied", each(|marking, i| marking.denied(i))),
         ("values_left", values.to_string()),
         ("sectors_left", sectors.to_string()),
-    ])
+    ];
+    if marking.has_linux() {
+        members.push(("above", each(|marking, i| marking.above(i))));
+    }
+    object(&members)
 }
 
 fn optional(text: Option<&str>) -> String {

@@ -13,8 +13,11 @@ pub use text::text;
 
 use crate::left::Group;
 use crate::level;
+use crate::linux;
 use crate::marking::Marking;
+use crate::row::Row;
 use labkit::names::level_name;
+use labkit::session::{Header, Request};
 
 /// The mark in one line, or why there is none.
 fn verdict(marking: &Marking) -> String {
@@ -32,12 +35,15 @@ fn verdict(marking: &Marking) -> String {
             )
         }
     };
+    let denied = [Some(denied), linux::in_mark(marking)];
+    let denied: Vec<String> = denied.into_iter().flatten().collect();
     let up_to = match marking.cut {
         Some(_) => " up to the cut",
         None => "",
     };
     format!(
-        "mark: {differ} of {all}{up_to} differ, {denied}; {}",
+        "mark: {differ} of {all}{up_to} differ, {}; {}",
+        denied.join(", "),
         left_words(marking)
     )
 }
@@ -56,10 +62,35 @@ fn left_words(marking: &Marking) -> String {
     }
 }
 
-fn counted(count: usize, what: &str) -> String {
+/// A number of things: `1 phy`, `4 phys`.
+pub fn counted(count: usize, what: &str) -> String {
     match count {
         1 => format!("1 {what}"),
         _ => format!("{count} {what}s"),
+    }
+}
+
+/// What stands behind the answers of a request: whether they differ, and whether a Linux request needs more than a level.
+fn remarks(marking: &Marking, row: &Row) -> String {
+    let differs = row.differs().then(|| "differs".to_string());
+    let both = [differs, linux::note(marking, row)];
+    both.into_iter().flatten().collect::<Vec<_>>().join("; ")
+}
+
+/// The name of a request's header for scripts.
+fn header_key(request: &Request) -> &'static str {
+    match request.header {
+        Header::Srb => "srb",
+        Header::Linux { .. } => "linux",
+    }
+}
+
+/// How many requests the session has, and how many of them are Linux ones.
+fn session_words(marking: &Marking) -> String {
+    let requests = counted(marking.requests.len(), "request");
+    match marking.linux {
+        0 => requests,
+        count => format!("{requests}, {count} of them Linux"),
     }
 }
 
@@ -112,11 +143,7 @@ fn head(marking: &Marking) -> Vec<(String, String)> {
         ),
         (
             "session".to_string(),
-            format!(
-                "{}, {}",
-                exercise.session.from,
-                counted(marking.requests.len(), "request")
-            ),
+            format!("{}, {}", exercise.session.from, session_words(marking)),
         ),
     ];
     if let Some(disks) = &exercise.disks {

@@ -1,6 +1,6 @@
 //! The plain report: the exercise, the requests with their answers, what the runs left, and the mark in the last line.
 
-use super::{explained, group, head, pairs, verdict};
+use super::{explained, group, head, pairs, remarks, verdict};
 use crate::left::GROUPS;
 use crate::marking::Marking;
 use labkit::report::{request_words, Difference};
@@ -43,7 +43,7 @@ fn requests(marking: &Marking) -> Vec<Vec<String>> {
     for (i, (request, row)) in marking.requests.iter().zip(&marking.rows).enumerate() {
         let mut cells = vec![(i + 1).to_string(), request_words(request)];
         cells.extend(row.answers.iter().map(|answer| answer.words()));
-        cells.push(if row.differs() { "differs" } else { "" }.to_string());
+        cells.push(remarks(marking, row));
         lines.push(cells);
         if row.behind {
             lines.extend(row.differences.iter().map(|d| valued(&["", ""], d)));

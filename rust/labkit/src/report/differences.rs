@@ -3,7 +3,7 @@
 
 use crate::adapter::{phy_value, PHY};
 use crate::field::{Field, Kind};
-use crate::session::{control_code, layout, HEADER, HEADER_FIELDS, STP_PASSTHRU};
+use crate::session::{layout, Header, STP_PASSTHRU};
 use crate::value::show_bytes;
 
 /// A part in which runs differ, and its value in each.
@@ -20,16 +20,21 @@ const WIDEST: usize = 40;
 /// How many bytes are shown of them.
 const EXCERPT: usize = 8;
 
-/// The differences of replies of one length to one request; none if they are the same bytes. Each reply is compared with the one that
-/// `like` names for it, all with the first if that is all zeros. From so many on they are counted and not shown.
-pub fn differences(replies: &[&[u8]], like: &[usize], most: usize) -> Vec<Difference> {
+/// The differences of replies of one length to one request of that header; none if they are the same bytes. Each reply is compared with
+/// the one that `like` names for it, all with the first if that is all zeros. From so many on they are counted and not shown.
+pub fn differences(
+    header: Header,
+    replies: &[&[u8]],
+    like: &[usize],
+    most: usize,
+) -> Vec<Difference> {
     let mut finder = Finder {
         like,
         most,
         found: Vec::new(),
         more: 0,
     };
-    finder.reply(replies);
+    finder.reply(header, replies);
     finder.end(replies.len())
 }
 
@@ -41,13 +46,13 @@ struct Finder<'a> {
 }
 
 impl Finder<'_> {
-    fn reply(&mut self, replies: &[&[u8]]) {
-        let Some(control) = replies.first().and_then(|reply| control_code(reply)) else {
+    fn reply(&mut self, header: Header, replies: &[&[u8]]) {
+        let Some(control) = replies.first().and_then(|reply| header.control(reply)) else {
             return self.bytes("buffer", replies);
         };
         let layout = layout(control);
-        self.fields("", &HEADER_FIELDS, &parts(replies, 0, HEADER));
-        let bodies = parts(replies, HEADER, replies[0].len());
+        self.fields("", header.fields(), &parts(replies, 0, header.size()));
+        let bodies = parts(replies, header.size(), replies[0].len());
         if layout.fields.is_empty() || bodies[0].len() < layout.size {
             return self.bytes("body", &bodies);
         }
@@ -184,10 +189,14 @@ fn parts<'a>(strings: &[&'a [u8]], from: usize, to: usize) -> Vec<&'a [u8]> {
 #[cfg(test)]
 mod tests {
     use super::*;
-    use crate::session::parse;
+    use crate::session::{parse, Form};
 
     fn request(line: &str) -> Vec<u8> {
         parse(line).unwrap()[4..].to_vec()
+    }
+
+    fn differences(replies: &[&[u8]], like: &[usize], most: usize) -> Vec<Difference> {
+        super::differences(Header::Srb, replies, like, most)
     }
 
     fn lines(low: &[u8], high: &[u8]) -> Vec<String> {
@@ -255,6 +264,17 @@ mod tests {
         assert_eq!(found[1].values, ["", "", ""]);
     }
 
+    #[test]
+    fn linux_replies_by_the_fields_of_their_header() {
+        let low = Form::Both.parse("linux get-link-errors").unwrap();
+        let high = "linux get-link-errors return-code=4 direction=1 reset-problem=7";
+        let high = Form::Both.parse(high).unwrap();
+        let header = Header::Linux { control: 22 };
+        let found = super::differences(header, &[&low[12..], &high[12..]], &[0, 0], 99);
+        let names: Vec<&str> = found.iter().map(|d| d.what.as_str()).collect();
+        assert_eq!(names, ["return-code", "direction", "reset-problem"]);
+    }
+
     /// Whatever byte differs, in whatever request, some difference names it.
     #[test]
     fn every_byte_is_seen() {
@@ -272,15 +292,23 @@ mod tests {
             "get-phy-info buffer=40",
             "raw 0102030405",
         ] {
-            let sent = request(line);
-            for at in (0..sent.len()).filter(|at| !(16..20).contains(at)) {
-                let mut other = sent.clone();
-                other[at] ^= 0x11;
-                assert!(
-                    !differences(&[&sent, &other], &[0, 0], 99).is_empty(),
-                    "{line}, byte {at}"
-                );
+            for line in [line.to_string(), format!("linux {line}")] {
+                every_byte_of(&line);
             }
+        }
+    }
+
+    fn every_byte_of(line: &str) {
+        let session = Form::Both.parse(line).unwrap();
+        let sent = Form::Both.split(&session).requests[0];
+        for at in 0..sent.buffer.len() {
+            if sent.header == Header::Srb && (16..20).contains(&at) {
+                continue;
+            }
+            let mut other = sent.buffer.to_vec();
+            other[at] ^= 0x11;
+            let found = super::differences(sent.header, &[sent.buffer, &other], &[0, 0], 99);
+            assert!(!found.is_empty(), "{line}, byte {at}");
         }
     }
 }

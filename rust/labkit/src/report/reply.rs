@@ -3,23 +3,26 @@
 use crate::adapter::entity_words;
 use crate::field::Field;
 use crate::names;
-use crate::session::{control_code, layout, HEADER, RETURN_CODE, STP_PASSTHRU};
-use crate::value::show_bytes;
+use crate::session::{layout, Header, STP_PASSTHRU};
+use crate::value::{show_bytes, show_code};
 
-/// The reply to a request in words, or why the two do not fit.
-pub fn reply(request: &[u8], reply: &[u8]) -> Result<String, String> {
+/// The reply to a request of that header in words, or why the two do not fit.
+pub fn reply(header: Header, request: &[u8], reply: &[u8]) -> Result<String, String> {
     if request.len() != reply.len() {
         let (sent, got) = (request.len(), reply.len());
         return Err(format!("the request has {sent} bytes, the reply {got}"));
     }
-    let Some(control) = control_code(reply) else {
+    let Some(control) = header.control(reply) else {
         return Ok("no header, so no return code\n".to_string());
     };
-    let code = RETURN_CODE.get(reply);
-    let name = names::control_name(control).unwrap_or("unknown control code");
-    let mut text = format!("{name} ({control}): {}\n", names::return_words(code));
+    let code = header.return_code().get(reply);
+    let mut text = format!(
+        "{}: {}\n",
+        title(header, control),
+        names::return_words(code)
+    );
     let layout = layout(control);
-    let (sent, got) = (&request[HEADER..], &reply[HEADER..]);
+    let (sent, got) = (&request[header.size()..], &reply[header.size()..]);
     if got.len() < layout.size || layout.fields.is_empty() {
         text.push_str(match sent == got {
             true => "the body is as sent\n",
@@ -36,6 +39,15 @@ pub fn reply(request: &[u8], reply: &[u8]) -> Result<String, String> {
         text.push_str(&row("data", &show_bytes(data), before != data));
     }
     Ok(text)
+}
+
+/// The request's name and control code.
+fn title(header: Header, control: u32) -> String {
+    let name = names::control_name(control).unwrap_or("unknown control code");
+    match header {
+        Header::Srb => format!("{name} ({control})"),
+        Header::Linux { .. } => format!("linux {name} ({})", show_code(control)),
+    }
 }
 
 /// The line of one field, and of the entities of code 20 a line for each phy.
@@ -79,10 +91,21 @@ fn row(name: &str, value: &str, changed: bool) -> String {
 #[cfg(test)]
 mod tests {
     use super::*;
-    use crate::session::parse;
+    use crate::session::{parse, Form};
 
     fn request(line: &str) -> Vec<u8> {
         parse(line).unwrap()[4..].to_vec()
+    }
+
+    fn reply(request: &[u8], reply: &[u8]) -> Result<String, String> {
+        super::reply(Header::Srb, request, reply)
+    }
+
+    /// What a Linux request that one line describes gets, if the other describes the reply.
+    fn linux(sent: &str, got: &str) -> String {
+        let [sent, got] = [sent, got].map(|line| Form::Both.parse(line).unwrap());
+        let [sent, got] = [&sent, &got].map(|session| Form::Both.split(session).requests[0]);
+        super::reply(sent.header, sent.buffer, got.buffer).unwrap()
     }
 
     #[test]
@@ -130,6 +153,31 @@ mod tests {
                 .count(),
             2
         );
+    }
+
+    #[test]
+    fn linux_replies_in_words() {
+        let text = linux(
+            "linux get-link-errors phy=1",
+            "linux get-link-errors phy=1 return-code=2002 loss-of-sync=7",
+        );
+        assert!(text.starts_with("linux get-link-errors (22): 2002 phy does not exist\n"));
+        assert!(text.contains("* loss-of-sync       7\n"));
+        assert!(text.contains("  phy                1\n"));
+        let text = linux(
+            "linux stp-passthru command=20h data=00*12",
+            "linux stp-passthru command=20h data=5A*12",
+        );
+        assert!(text.contains("* data               5A*12\n"));
+        assert_eq!(
+            linux(
+                "linux request control=CC770014h",
+                "linux request control=CC770014h return-code=2"
+            ),
+            "linux unknown control code (CC770014h): 2 bad control code\nthe body is as sent\n"
+        );
+        let short = "linux raw control=22 00*19";
+        assert_eq!(linux(short, short), "no header, so no return code\n");
     }
 
     #[test]

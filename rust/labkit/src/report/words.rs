@@ -1,20 +1,47 @@
 //! A request in a few words, for one column of a table.
 
 use crate::names;
-use crate::session::{control_code, layout, HEADER, STP_PASSTHRU};
-use crate::value::show_bytes;
+use crate::session::{layout, Header, Request, STP_PASSTHRU};
+use crate::value::{show_bytes, show_code};
 
-/// The request's name and the fields that say what it asks for.
-pub fn request_words(request: &[u8]) -> String {
-    let Some(control) = control_code(request) else {
-        return format!("{} bytes, no header", request.len());
+/// The request's name and the fields that say what it asks for; `linux` before it if it has that header.
+pub fn request_words(request: &Request) -> String {
+    match request.header {
+        Header::Srb => first_words(request),
+        Header::Linux { control } => format!("linux {}", linux_words(request, control)),
+    }
+}
+
+fn first_words(request: &Request) -> String {
+    let (Some(control), Some(body)) = (request.control(), request.body()) else {
+        return no_header(request);
     };
-    let Some(name) = names::control_name(control) else {
-        return format!("control code {control}");
-    };
-    let layout = layout(control);
-    let body = &request[HEADER..];
-    if body.len() < layout.size {
+    match names::control_name(control) {
+        Some(name) => named(name, control, body),
+        None => format!("control code {control}"),
+    }
+}
+
+/// The control code, handed in beside the buffer, is known of a short one too.
+fn linux_words(request: &Request, control: u32) -> String {
+    let code = || format!("control code {}", show_code(control));
+    let name = names::control_name(control);
+    match (name, request.body()) {
+        (Some(name), Some(body)) => named(name, control, body),
+        (name, None) => {
+            let name = name.map_or_else(code, str::to_string);
+            format!("{name}, {}", no_header(request))
+        }
+        (None, Some(_)) => code(),
+    }
+}
+
+fn no_header(request: &Request) -> String {
+    format!("{} bytes, no header", request.buffer.len())
+}
+
+fn named(name: &str, control: u32, body: &[u8]) -> String {
+    if body.len() < layout(control).size {
         return format!("{name}, cut off");
     }
     let byte = |at: usize| u32::from(body[at]);
@@ -83,7 +110,12 @@ fn rate(body: &[u8]) -> String {
 #[cfg(test)]
 mod tests {
     use super::*;
-    use crate::session::parse;
+    use crate::session::Form;
+
+    fn words_of(line: &str) -> String {
+        let session = Form::Both.parse(line).unwrap();
+        request_words(&Form::Both.split(&session).requests[0])
+    }
 
     #[test]
     fn requests_in_words() {
@@ -113,7 +145,37 @@ mod tests {
             ("request control=99", "control code 99"),
             ("raw 0102", "2 bytes, no header"),
         ] {
-            assert_eq!(request_words(&parse(line).unwrap()[4..]), words);
+            assert_eq!(words_of(line), words);
+        }
+    }
+
+    #[test]
+    fn linux_requests_in_words() {
+        for (line, words) in [
+            ("linux get-phy-info", "linux get-phy-info"),
+            (
+                "linux stp-passthru phy=0 command=30h lba=3 count=1",
+                "linux stp-passthru phy 0: write LBA 3 count 1",
+            ),
+            (
+                "linux get-link-errors buffer=39",
+                "linux get-link-errors, cut off",
+            ),
+            ("linux request control=99", "linux control code 99"),
+            (
+                "linux request control=CC770014h",
+                "linux control code CC770014h",
+            ),
+            (
+                "linux raw control=22 0102",
+                "linux get-link-errors, 2 bytes, no header",
+            ),
+            (
+                "linux raw control=99",
+                "linux control code 99, 0 bytes, no header",
+            ),
+        ] {
+            assert_eq!(words_of(line), words);
         }
     }
 }

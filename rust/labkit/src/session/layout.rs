@@ -1,22 +1,8 @@
-//! Where the fields of a request stand: the header, and for each control code the signature, the size and the named fields of its
-//! structure, offsets from the end of the header.
+//! Where the fields of a request stand: for each control code the signature, the size and the named fields of its structure, offsets
+//! from the end of the header.
 
 use crate::adapter::{DRIVER, ROW};
 use crate::field::{byte, bytes, code, field, number, Field, Kind};
-
-pub const CONTROL: Field = number("control", 16, 4);
-pub const RETURN_CODE: Field = number("return-code", 20, 4);
-pub const LENGTH: Field = number("length", 24, 4);
-
-/// SRB_IO_CONTROL, 28 bytes.
-pub const HEADER_FIELDS: [Field; 6] = [
-    number("header-length", 0, 4),
-    field("signature", 4, 8, Kind::Text),
-    number("timeout", 12, 4),
-    CONTROL,
-    RETURN_CODE,
-    LENGTH,
-];
 
 /// The structure of one control code.
 #[derive(Debug, Clone, Copy)]
@@ -27,20 +13,24 @@ pub struct Layout {
     pub fields: &'static [Field],
 }
 
-/// The control code whose structure ends with a data buffer, and where uDataLength stands.
+pub const DRIVER_INFO: u32 = 1;
+/// The control code that changes a phy.
+pub const SET_PHY_INFO: u32 = 21;
+/// The control code whose structure ends with a data buffer, where the command stands in it, and uDataLength.
 pub const STP_PASSTHRU: u32 = 25;
+pub const ATA_COMMAND: usize = 18;
 pub const DATA_LENGTH: Field = number("data-length", 40, 4);
 
 /// The structure of a control code. A code without a table here has no named fields.
 pub fn layout(control: u32) -> Layout {
     let (signature, size, fields): (_, _, &'static [Field]) = match control {
-        1 => ("CSMIALL", 174, &DRIVER),
+        DRIVER_INFO => ("CSMIALL", 174, &DRIVER),
         2 => ("CSMIALL", 176, &[]),
         3 => ("CSMIALL", 36, &[]),
         4 => ("CSMIALL", 44, &[]),
         10 | 11 => ("CSMIARY", 0, &[]),
         20 => ("CSMISAS", 2052, &PHY_INFO),
-        21 => ("CSMISAS", 8, &SET_PHY_INFO),
+        SET_PHY_INFO => ("CSMISAS", 8, &PHY_CHANGE),
         22 => ("CSMISAS", 20, &LINK_ERRORS),
         23 => ("CSMISAS", 2064, &[]),
         STP_PASSTHRU => ("CSMISAS", 136, &STP),
@@ -64,7 +54,7 @@ const PHY_INFO: [Field; 3] = [
     bytes("entities", 4, 2048),
 ];
 
-const SET_PHY_INFO: [Field; 6] = [
+const PHY_CHANGE: [Field; 6] = [
     byte("phy", 0),
     byte("negotiated", 1),
     byte("minimum", 2),
@@ -93,7 +83,7 @@ const STP: [Field; 24] = [
     bytes("reserved2", 12, 4),
     code("fis-type", 16),
     code("fis-flags", 17),
-    code("command", 18),
+    code("command", ATA_COMMAND),
     code("features", 19),
     field("lba", 20, 4, Kind::Lba),
     field("device", 23, 1, Kind::High),

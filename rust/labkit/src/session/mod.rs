@@ -1,78 +1,54 @@
-//! A session: each request a 4-byte little-endian length, then its bytes. A request begins with the 28-byte SRB_IO_CONTROL
-//! (4.1.3.1), and its body is the structure of its control code.
+//! A session: requests one after the other. A request begins with the first header, the 28-byte SRB_IO_CONTROL (4.1.3.1), or with the
+//! Linux header (4.2.3.1), and its body is the structure of its control code.
 
 mod describe;
+mod form;
+mod header;
 mod layout;
 mod parse;
 mod request;
 
-pub use describe::{describe, describe_request};
-pub use layout::{layout, Layout, HEADER_FIELDS, RETURN_CODE, STP_PASSTHRU};
-pub use parse::parse;
+pub use describe::describe_request;
+pub use form::{Form, MOST_REQUEST};
+pub use header::{srb, Header, DIRECTION};
+pub use layout::{layout, Layout, DRIVER_INFO, STP_PASSTHRU};
 
-/// The most bytes of a request.
-pub const MOST_REQUEST: usize = 32_768;
-/// The bytes of the header.
-pub const HEADER: usize = 28;
+use crate::Fault;
 
-/// A session cut into its requests. The tail is what is left behind the last whole request: nothing, or a request that is cut short
-/// or oversized.
+/// A request: its header, and its whole buffer.
+#[derive(Debug, Clone, Copy, PartialEq, Eq)]
+pub struct Request<'a> {
+    pub header: Header,
+    pub buffer: &'a [u8],
+}
+
+impl<'a> Request<'a> {
+    /// The control code, if the header is whole.
+    pub fn control(&self) -> Option<u32> {
+        self.header.control(self.buffer)
+    }
+
+    /// What stands behind the header, if that is whole.
+    pub fn body(&self) -> Option<&'a [u8]> {
+        self.buffer.get(self.header.size()..)
+    }
+}
+
+/// A session cut into its requests. The tail is what is left behind the last whole request: nothing, or a request that is cut short,
+/// oversized or of no header.
 #[derive(Debug, PartialEq, Eq)]
 pub struct Session<'a> {
-    pub requests: Vec<&'a [u8]>,
+    pub form: Form,
+    pub requests: Vec<Request<'a>>,
     pub tail: &'a [u8],
 }
 
-/// Cuts a session into its requests.
+/// The session for the program that a description makes.
+pub fn parse(text: &str) -> Result<Vec<u8>, Fault> {
+    Form::Program.parse(text)
+}
+
+/// Cuts a session for the program into its requests.
 pub fn split(session: &[u8]) -> Session<'_> {
-    let mut requests = Vec::new();
-    let mut tail = session;
-    while let Some((request, rest)) = first(tail) {
-        requests.push(request);
-        tail = rest;
-    }
-    Session { requests, tail }
-}
-
-/// The request at the front, if it is whole, and what follows it.
-fn first(session: &[u8]) -> Option<(&[u8], &[u8])> {
-    let (length, rest) = session.split_first_chunk::<4>()?;
-    let length = u32::from_le_bytes(*length) as usize;
-    if length > MOST_REQUEST || length > rest.len() {
-        return None;
-    }
-    Some(rest.split_at(length))
-}
-
-/// The control code of a request that has a whole header.
-pub fn control_code(request: &[u8]) -> Option<u32> {
-    request
-        .get(..HEADER)
-        .map(|header| layout::CONTROL.get(header))
-}
-
-#[cfg(test)]
-mod tests {
-    use super::*;
-
-    #[test]
-    fn cut_into_requests() {
-        let session = [2, 0, 0, 0, 7, 8, 0, 0, 0, 0, 1, 0, 0, 0, 9];
-        let cut = split(&session);
-        assert_eq!(cut.requests, [&[7, 8][..], &[], &[9]]);
-        assert_eq!(cut.tail, []);
-        for tail in 1..5 {
-            let cut = split(&session[..10 + tail]);
-            assert_eq!((cut.requests.len(), cut.tail.len()), (2, tail));
-        }
-    }
-
-    #[test]
-    fn the_longest_request() {
-        let mut session = 32_768u32.to_le_bytes().to_vec();
-        session.resize(4 + 32_769, 0);
-        assert_eq!(split(&session[..4 + 32_768]).requests.len(), 1);
-        session[0] = 1;
-        assert_eq!(split(&session).tail.len(), 4 + 32_769);
-    }
+    Form::Program.split(session)
 }

@@ -1,7 +1,7 @@
 //! One request made from its line.
 
-use super::layout::{layout, CONTROL, DATA_LENGTH, HEADER_FIELDS, LENGTH, STP_PASSTHRU};
-use super::{HEADER, MOST_REQUEST};
+use super::layout::{layout, DATA_LENGTH, STP_PASSTHRU};
+use super::{Form, Header};
 use crate::field::fill;
 use crate::names;
 use crate::text::{Line, Word};
@@ -10,17 +10,6 @@ use crate::Fault;
 
 /// The name of a request whose control code has no name.
 pub const UNNAMED: &str = "request";
-
-/// The header that a sound request has.
-pub fn header(control: u32, body: usize) -> [u8; HEADER] {
-    let mut header = [0; HEADER];
-    header[0] = HEADER as u8;
-    header[4..11].copy_from_slice(layout(control).signature.as_bytes());
-    header[12] = 60;
-    header[CONTROL.at..][..4].copy_from_slice(&control.to_le_bytes());
-    header[LENGTH.at..][..4].copy_from_slice(&(body as u32).to_le_bytes());
-    header
-}
 
 /// The body of a request with no field named: zeros, and of code 25 a command FIS that is sound and for any port.
 pub fn body(control: u32, data: &[u8]) -> Vec<u8> {
@@ -36,21 +25,39 @@ pub fn body(control: u32, data: &[u8]) -> Vec<u8> {
     body
 }
 
-/// The bytes of a request that a line describes by its name and fields.
-pub fn from_line(line: &mut Line) -> Result<Vec<u8>, Fault> {
-    let control = match line.name.as_str() {
+/// The header and the bytes of a request that a line describes by its name and fields.
+pub fn from_line(
+    form: Form,
+    name: &str,
+    linux: bool,
+    line: &mut Line,
+) -> Result<(Header, Vec<u8>), Fault> {
+    let control = match name {
         UNNAMED => 0,
         name => names::control_code(name)
             .ok_or_else(|| Fault::new(line.number, format!("'{name}' is no request")))?,
     };
     let mut body = body_from_line(control, line)?;
-    let mut request = header(control, body.len()).to_vec();
-    fill(&mut request, &HEADER_FIELDS, line)?;
-    request.append(&mut body);
+    let header = header(linux, control, line)?;
+    let mut buffer = header.sound(control, &body);
+    fill(&mut buffer, header.fields(), line)?;
+    buffer.append(&mut body);
     if let Some(word) = line.take("buffer")? {
-        request.resize(number(&word, MOST_REQUEST)?, 0);
+        buffer.resize(number(&word, form.most() as u64)? as usize, 0);
     }
-    Ok(request)
+    Ok((header, buffer))
+}
+
+/// The kind of header. The control code beside a Linux one is the name's, or what `control` says.
+pub fn header(linux: bool, control: u32, line: &mut Line) -> Result<Header, Fault> {
+    if !linux {
+        return Ok(Header::Srb);
+    }
+    let control = match line.take("control")? {
+        Some(word) => number(&word, u64::from(u32::MAX))? as u32,
+        None => control,
+    };
+    Ok(Header::Linux { control })
 }
 
 fn body_from_line(control: u32, line: &mut Line) -> Result<Vec<u8>, Fault> {
@@ -85,7 +92,6 @@ pub fn bytes(word: &Word) -> Result<Vec<u8>, Fault> {
     value::bytes(&word.value).map_err(|reason| word.fault(reason))
 }
 
-fn number(word: &Word, most: usize) -> Result<usize, Fault> {
-    let n = value::number(&word.value, most as u64).map_err(|reason| word.fault(reason))?;
-    Ok(n as usize)
+fn number(word: &Word, most: u64) -> Result<u64, Fault> {
+    value::number(&word.value, most).map_err(|reason| word.fault(reason))
 }
