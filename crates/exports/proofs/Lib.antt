@@ -1,2 +1,4 @@
--- The laws that the proofs of this crate and of the crates above cite.
+-- The laws that the proofs of this crate cite.
+pub mod FramesLaws
 pub mod Laws
+pub mod RunLaws

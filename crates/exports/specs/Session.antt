@@ -1,58 +1,37 @@
--- A session and its run, as bytes (document 01, "Starred cases", its last paragraphs, and "Two runs and the last writer"): the requests in
--- the program's format, the replies in their places, and a record of call numbers and return codes. The program's limit of 32,768 bytes for a request is
--- not the library's, which has each request in memory already. Assumes nothing.
-use mathlib.Core.Bool.{Bool, cond, _&&_}
+-- The run of a session, as bytes (document 01, "Starred cases", its last paragraphs, and "Two runs and the last writer"): the replies in their
+-- requests' places, and a record of call numbers and return codes. Assumes nothing.
+use mathlib.Core.Bool.{cond}
 use mathlib.Core.List.{List, [], _∷_, _++_}
-use Prim.Native.Nat.{ℕ, zero, suc, _+_, _*_, _/_}
-use lib.Dec.{eqb, leb}
+use Prim.Native.Nat.{ℕ, _*_, _/_}
+use lib.Dec.{eqb}
 use lib.ListN.{length, take, drop}
-use Rattle.laws.specs.Splice.{part}
-use Rattle.wire.specs.Number.{number, bytes}
-use Rattle.header.specs.Form.{srb, returnCode}
+use Rattle.wire.specs.Number.{bytes}
+use Rattle.header.specs.Form.{returnCode}
+use Rattle.header.specs.Sent.{Request, formOf}
 use Rattle.service.specs.Serve.{Store}
-use Rattle.dispatch.specs.Request.{Request, requestOf, Point, Outcome, handled}
-use Rattle.claims.specs.Run.{Reply, Entry, End, replyOf, run, wholeRun}
-
--- ---- the requests of a session
-
--- "a 4-byte length"
-abbrev pub sizeOf : List ℕ → ℕ
-sizeOf session = number (part session 0 4)
-
--- "then its bytes; a short .. last one .. ends it"
-unfoldable pub wholeFirst : List ℕ → Bool
-wholeFirst session = leb 4 (length session) && leb (4 + sizeOf session) (length session)
-
--- the bytes of the first request, and what stands behind them
-abbrev pub firstOf : List ℕ → List ℕ
-firstOf session = part session 4 (sizeOf session)
-
-abbrev pub behindFirst : List ℕ → List ℕ
-behindFirst session = drop (4 + sizeOf session) session
-
--- the requests of a session, at most so many
-unfoldable pub requestsOf : ℕ → List ℕ → List Request
-requestsOf zero session = []
-requestsOf (suc room) session = cond (wholeFirst session) (requestOf (firstOf session) ∷ requestsOf room (behindFirst session)) []
+use Rattle.dispatch.specs.Request.{Point, Outcome, handled}
+use Rattle.claims.specs.Run.{Exchange, Entry, End, exchangeOf, run, wholeRun}
+use Rattle.exports.specs.declared.frames.Framing.{Framing}
+use Rattle.exports.specs.Frames.{prefixSize, behindFirst, requestIn, requestsOf}
 
 -- ---- what a run leaves, as bytes
 
--- the replies in the requests' places
-unfoldable pub withReplies : List Entry → List ℕ → List ℕ
-withReplies [] session = session
-withReplies (e ∷ log) session = take 4 session ++ (e .exchange .reply .buffer ++ withReplies log (behindFirst session))
+-- the replies in the requests' places; what stands before each stays
+unfoldable pub withReplies : Framing → List Entry → List ℕ → List ℕ
+withReplies f [] session = session
+withReplies f (e ∷ log) session = take (prefixSize f) session ++ (e .exchange .reply .buffer ++ withReplies f log (behindFirst f session))
 
--- the return code; where the call gives a number none is written, and FFFFFFFFh stands for it
-unfoldable pub codeOf : Reply → ℕ
-codeOf reply = cond (eqb (reply .call) 0) (returnCode srb (reply .buffer)) 4294967295
+-- the return code, where the request's own header has it; where the call gives a number none is written, and FFFFFFFFh stands for it
+unfoldable pub codeOf : Exchange → ℕ
+codeOf x = cond (eqb (x .reply .call) 0) (returnCode (formOf (x .sent)) (x .reply .buffer)) 4294967295
 
 -- a request's call number and return code
-abbrev pub lineOf : Reply → List ℕ
-lineOf reply = bytes 4 (reply .call) ++ bytes 4 (codeOf reply)
+abbrev pub lineOf : Exchange → List ℕ
+lineOf x = bytes 4 (x .reply .call) ++ bytes 4 (codeOf x)
 
 unfoldable pub linesOf : List Entry → List ℕ
 linesOf [] = []
-linesOf (e ∷ log) = lineOf (e .exchange .reply) ++ linesOf log
+linesOf (e ∷ log) = lineOf (e .exchange) ++ linesOf log
 
 -- the number of requests handled, and what is lent beside the state, the session and the record afterwards
 pub record Ran : Type 0 where
@@ -65,23 +44,19 @@ abbrev pub ran : ℕ → Store → List ℕ → List ℕ → Ran
 ran count store session lines = record { count = count; store = store; session = session; lines = lines }
 
 -- a run's end, in a session and a record; what the record has past the requests stays
-unfoldable pub shown : End → List ℕ → List ℕ → Ran
-shown end session lines =
-    ran (length (end .log)) (end .point .store) (withReplies (end .log) session) (linesOf (end .log) ++ drop (8 * length (end .log)) lines)
+unfoldable pub shown : Framing → End → List ℕ → List ℕ → Ran
+shown f end session lines =
+    ran (length (end .log)) (end .point .store) (withReplies f (end .log) session) (linesOf (end .log) ++ drop (8 * length (end .log)) lines)
 
 -- "A run is an opening, then a list of requests": those of the session, as many as the record has room for. A line is 8 bytes
-unfoldable pub sessionRun : List ℕ → List ℕ → Store → List ℕ → List ℕ → Ran
-sessionRun text file store session lines = shown (wholeRun text file store (requestsOf (length lines / 8) session)) session lines
+unfoldable pub sessionRun : Framing → List ℕ → List ℕ → Store → List ℕ → List ℕ → Ran
+sessionRun f text file store session lines = shown f (wholeRun text file store (requestsOf f (length lines / 8) session)) session lines
 
 -- the same from a point, with room for so many
-unfoldable pub ranFrom : ℕ → Point → List ℕ → List ℕ → Ran
-ranFrom room p session lines = shown (run p (requestsOf room session)) session lines
+unfoldable pub ranFrom : Framing → ℕ → Point → List ℕ → List ℕ → Ran
+ranFrom f room p session lines = shown f (run p (requestsOf f room session)) session lines
 
 -- ---- one request of a session, for the contracts below the whole run
-
--- where the request ends that begins at an index; that index itself where no whole request does
-unfoldable pub endFrom : List ℕ → ℕ → ℕ
-endFrom session at = cond (wholeFirst (drop at session)) (at + (4 + sizeOf (drop at session))) at
 
 -- what one request leaves: the state and the medium, the bytes that it stands in, and its line of the record
 pub record Recorded : Type 0 where
@@ -93,13 +68,20 @@ abbrev pub records : Point → List ℕ → List ℕ → Recorded
 records p bytes line = record { point = p; bytes = bytes; line = line }
 
 -- in a buffer of its own
-abbrev pub afterRequest : Outcome → Recorded
-afterRequest o = records (o .point) (o .buffer) (lineOf (replyOf o))
+abbrev pub afterRequest : Request → Outcome → Recorded
+afterRequest r o = records (o .point) (o .buffer) (lineOf (exchangeOf r o))
 
--- behind the bytes of its length
-abbrev pub behindLength : List ℕ → Recorded → Recorded
-behindLength size l = records (l .point) (size ++ l .bytes) (l .line)
+-- behind what stands before it
+abbrev pub behindPrefix : List ℕ → Recorded → Recorded
+behindPrefix prefix x = records (x .point) (prefix ++ x .bytes) (x .line)
 
--- what a request with its length before it leaves
-unfoldable pub afterSized : Point → List ℕ → Recorded
-afterSized p request = behindLength (take 4 request) (afterRequest (handled p (requestOf (drop 4 request))))
+-- what the request that stands in such bytes leaves
+unfoldable pub afterFramed : Framing → Point → List ℕ → Recorded
+afterFramed f p bytes = behindPrefix (take (prefixSize f) bytes) (afterRequest (requestIn f bytes) (handled p (requestIn f bytes)))
+
+-- what a request in the first so many bytes of a session leaves, in the whole session and the whole record
+abbrev pub behindIt : List ℕ → List ℕ → Recorded → Recorded
+behindIt session lines x = records (x .point) (x .bytes ++ session) (x .line ++ lines)
+
+unfoldable pub afterFirst : Framing → ℕ → Point → List ℕ → List ℕ → Recorded
+afterFirst f size p session lines = behindIt (drop size session) (drop 8 lines) (afterFramed f p (take size session))

@@ -1,12 +1,16 @@
-// The simulator for programs in other languages: its two calls, and a whole run, over bytes that the caller lends. `ascheknopf.h` declares
-// them for C.
+// The simulator for programs in other languages: its two calls, the second under either header, and a whole run, over bytes that the caller lends.
+// `ascheknopf.h` declares them for C.
+mod frames;
 mod session;
 
+use frames::Framing;
 use session::run;
 ghost use mathlib.Core.Path.{_≡_};
+ghost use Rattle.header.specs.declared.Kind.the-variants.{Srb, Linux};
 ghost use Rattle.state.specs.Open.{OpenCall};
 ghost use Rattle.service.specs.Serve.{storeOf};
 ghost use Rattle.dispatch.specs.Request.{RequestCall};
+ghost use Rattle.exports.specs.declared.frames.Framing.the-variants.{FirstHeader, BothHeaders};
 ghost use Rattle.exports.specs.Session.{ran, sessionRun};
 
 // Opens an adapter. Leaves its state and gives 0, or leaves the zero state and gives the number of what is wrong.
@@ -17,13 +21,44 @@ pub extern "C" fn ascheknopf_open(text: &[u8], file: &[u8], medium: &[u8], state
     dispatch::open(text, file, medium, state)
 }
 
-// Handles one request, in place.
+// Handles one request under the first header, in place.
 #[no_mangle]
 pub extern "C" fn ascheknopf_request(state: &mut [u8], medium: &mut [u8], buffer: &mut [u8]) -> u32
-    ensures { λ call. ⌜ RequestCall (now (state .entry)) (storeOf (now (medium .entry))) (now (buffer .entry)) call
+    ensures { λ call. ⌜ RequestCall Srb (now (state .entry)) (storeOf (now (medium .entry))) (now (buffer .entry)) call
         (now (state .exit)) (storeOf (now (medium .exit))) (now (buffer .exit)) ⌝ }
 {
     dispatch::request(state, medium, buffer)
+}
+
+// Handles one request under the Linux header, in place. Its control code is handed in beside the buffer.
+#[no_mangle]
+pub extern "C" fn ascheknopf_request_linux(
+    state: &mut [u8],
+    medium: &mut [u8],
+    control: u32,
+    buffer: &mut [u8],
+) -> u32
+    ensures { λ call. ⌜ RequestCall (Linux control) (now (state .entry)) (storeOf (now (medium .entry))) (now (buffer .entry)) call
+        (now (state .exit)) (storeOf (now (medium .exit))) (now (buffer .exit)) ⌝ }
+{
+    dispatch::request_linux(state, medium, control, buffer)
+}
+
+// Opens the adapter and runs a session.
+fn open_and_run(
+    framing: Framing,
+    text: &[u8],
+    file: &[u8],
+    medium: &mut [u8],
+    session: &mut [u8],
+    lines: &mut [u8],
+) -> usize
+    ensures { λ r. ⌜ ran r (storeOf (now (medium .exit))) (now (session .exit)) (now (lines .exit))
+        ≡ sessionRun framing (now (text .entry)) (now (file .entry)) (storeOf (now (medium .entry))) (now (session .entry)) (now (lines .entry)) ⌝ }
+{
+    let mut state = [0u8; dispatch::SIZE];
+    dispatch::open(text, file, medium, &mut state);
+    run(framing, &mut state, medium, session, lines)
 }
 
 // Opens the adapter and handles the requests of a session in order, until one is cut short or the record is full: the replies stand in the
@@ -38,9 +73,23 @@ pub extern "C" fn ascheknopf_run(
     lines: &mut [u8],
 ) -> usize
     ensures { λ r. ⌜ ran r (storeOf (now (medium .exit))) (now (session .exit)) (now (lines .exit))
-        ≡ sessionRun (now (text .entry)) (now (file .entry)) (storeOf (now (medium .entry))) (now (session .entry)) (now (lines .entry)) ⌝ }
+        ≡ sessionRun FirstHeader (now (text .entry)) (now (file .entry)) (storeOf (now (medium .entry))) (now (session .entry)) (now (lines .entry)) ⌝ }
 {
-    let mut state = [0u8; dispatch::SIZE];
-    dispatch::open(text, file, medium, &mut state);
-    run(&mut state, medium, session, lines)
+    open_and_run(Framing::FirstHeader, text, file, medium, session, lines)
+}
+
+// The same of a session whose requests may have either header: before each stand its header (0 the first, 1 the Linux one), its control code (0
+// beside the first header) and its length, 4 bytes each. Any other header, and a control code beside the first one, end it like a cut request.
+#[no_mangle]
+pub extern "C" fn ascheknopf_run_both(
+    text: &[u8],
+    file: &[u8],
+    medium: &mut [u8],
+    session: &mut [u8],
+    lines: &mut [u8],
+) -> usize
+    ensures { λ r. ⌜ ran r (storeOf (now (medium .exit))) (now (session .exit)) (now (lines .exit))
+        ≡ sessionRun BothHeaders (now (text .entry)) (now (file .entry)) (storeOf (now (medium .entry))) (now (session .entry)) (now (lines .entry)) ⌝ }
+{
+    open_and_run(Framing::BothHeaders, text, file, medium, session, lines)
 }

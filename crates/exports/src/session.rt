@@ -1,4 +1,10 @@
-// A session in the program's format: each request a 4-byte length, then its bytes.
+// The run of a session: its requests handled in order, in place.
+use crate::frames::Framing;
+use crate::frames::first_size;
+use crate::frames::kind_of;
+use crate::frames::prefix_size;
+use crate::frames::read_prefix;
+use header::Kind;
 ghost use mathlib.Core.Path.{_≡_};
 ghost use mathlib.Core.Bool.{true};
 ghost use mathlib.Core.List.{_++_};
@@ -7,30 +13,14 @@ ghost use lib.ListN.{length};
 ghost use Rattle.wire.specs.Number.{bytes};
 ghost use Rattle.adapter.specs.Adapter.{mediumSize};
 ghost use Rattle.state.specs.State.{stateSize, stateOf, stateHolds};
-ghost use Rattle.header.specs.Form.{srb};
+ghost use Rattle.header.specs.Sent.{sent, formBy};
 ghost use Rattle.service.specs.Serve.{storeOf};
-ghost use Rattle.dispatch.specs.Request.{requestOf, point, stateNumber, answeredAt, handled};
-ghost use Rattle.exports.specs.Session.{endFrom, records, afterRequest, afterSized, ran, ranFrom};
+ghost use Rattle.dispatch.specs.Request.{point, stateNumber, answeredAt, handled};
+ghost use Rattle.exports.specs.Frames.{prefixSize};
+ghost use Rattle.exports.specs.Session.{records, afterRequest, afterFramed, afterFirst, ran, ranFrom};
 
 // What a line of the record has where no return code was written.
 const NO_CODE: u32 = 4294967295;
-
-// Where the request ends that begins at an index; that index itself where no whole request does.
-fn end_from(session: &[u8], at: usize) -> usize
-    requires { ⌜ at ≤ length (now session) ⌝ }
-    ensures { λ r. ⌜ r ≡ endFrom (now (session .entry)) at ⌝ }
-    ensures { λ r. ⌜ (at ≤ r) × (r ≤ length (now (session .entry))) ⌝ }
-{
-    let behind = session.len() - at;
-    if behind < 4 {
-        return at;
-    }
-    let size = wire::read32(session, at);
-    if behind < 4 + size as usize {
-        return at;
-    }
-    at + (4 + size as usize)
-}
 
 // Writes a request's line of the record.
 fn write_line(line: &mut [u8], call: u32, code: u32)
@@ -42,21 +32,23 @@ fn write_line(line: &mut [u8], call: u32, code: u32)
 }
 
 // Handles a request that passed the checks of the call, and writes its line.
-fn record_reply(state: &mut [u8], medium: &mut [u8], buffer: &mut [u8], line: &mut [u8])
+fn record_reply(kind: Kind, state: &mut [u8], medium: &mut [u8], buffer: &mut [u8], line: &mut [u8])
     requires { ⌜ length (now state) ≡ stateSize ⌝ }
     requires { ⌜ stateHolds (stateOf (now state)) ≡ true ⌝ }
     requires { ⌜ length (now medium) ≡ mediumSize (stateOf (now state) .adapter) ⌝ }
-    requires { ⌜ srb .size ≤ length (now buffer) ⌝ }
+    requires { ⌜ formBy kind .size ≤ length (now buffer) ⌝ }
     requires { ⌜ length (now line) ≡ 8 ⌝ }
     ensures { λ _. ⌜ records (point (stateOf (now (state .exit))) (storeOf (now (medium .exit)))) (now (buffer .exit)) (now (line .exit))
-        ≡ afterRequest (answeredAt (point (stateOf (now (state .entry))) (storeOf (now (medium .entry)))) (requestOf (now (buffer .entry)))) ⌝ }
+        ≡ afterRequest (sent kind (now (buffer .entry)))
+        (answeredAt (point (stateOf (now (state .entry))) (storeOf (now (medium .entry)))) (sent kind (now (buffer .entry)))) ⌝ }
 {
-    let code = dispatch::reply(state, medium, buffer);
+    let code = dispatch::reply(kind, state, medium, buffer);
     write_line(line, 0, code);
 }
 
 // Handles a request, and writes its line. `number` is that of the state and the medium.
 fn record_request(
+    kind: Kind,
     number: u32,
     state: &mut [u8],
     medium: &mut [u8],
@@ -67,17 +59,19 @@ fn record_request(
     requires { ⌜ number ≡ stateNumber (stateOf (now state)) (length (now medium)) ⌝ }
     requires { ⌜ length (now line) ≡ 8 ⌝ }
     ensures { λ _. ⌜ records (point (stateOf (now (state .exit))) (storeOf (now (medium .exit)))) (now (buffer .exit)) (now (line .exit))
-        ≡ afterRequest (handled (point (stateOf (now (state .entry))) (storeOf (now (medium .entry)))) (requestOf (now (buffer .entry)))) ⌝ }
+        ≡ afterRequest (sent kind (now (buffer .entry)))
+        (handled (point (stateOf (now (state .entry))) (storeOf (now (medium .entry)))) (sent kind (now (buffer .entry)))) ⌝ }
 {
-    let call = dispatch::buffer_number(number, buffer.len());
+    let call = dispatch::buffer_number(kind, number, buffer.len());
     if call == 0 {
-        return record_reply(state, medium, buffer, line);
+        return record_reply(kind, state, medium, buffer, line);
     }
     write_line(line, call, NO_CODE)
 }
 
-// The same of a request behind its length.
-fn record_sized(
+// The same of a request behind its prefix.
+fn record_framed(
+    framing: Framing,
     number: u32,
     state: &mut [u8],
     medium: &mut [u8],
@@ -86,20 +80,55 @@ fn record_sized(
 )
     requires { ⌜ length (now state) ≡ stateSize ⌝ }
     requires { ⌜ number ≡ stateNumber (stateOf (now state)) (length (now medium)) ⌝ }
-    requires { ⌜ 4 ≤ length (now request) ⌝ }
+    requires { ⌜ prefixSize framing ≤ length (now request) ⌝ }
     requires { ⌜ length (now line) ≡ 8 ⌝ }
     ensures { λ _. ⌜ records (point (stateOf (now (state .exit))) (storeOf (now (medium .exit)))) (now (request .exit)) (now (line .exit))
-        ≡ afterSized (point (stateOf (now (state .entry))) (storeOf (now (medium .entry)))) (now (request .entry)) ⌝ }
+        ≡ afterFramed framing (point (stateOf (now (state .entry))) (storeOf (now (medium .entry)))) (now (request .entry)) ⌝ }
 {
-    record_request(number, state, medium, &mut request[4..], line)
+    let kind = kind_of(read_prefix(framing, request));
+    let before = prefix_size(framing);
+    record_request(kind, number, state, medium, &mut request[before..], line)
+}
+
+// The same of the first request of a session, which stands in `size` bytes, with the first line of a record.
+fn record_first(
+    framing: Framing,
+    size: usize,
+    number: u32,
+    state: &mut [u8],
+    medium: &mut [u8],
+    session: &mut [u8],
+    lines: &mut [u8],
+)
+    requires { ⌜ (prefixSize framing ≤ size) × (size ≤ length (now session)) ⌝ }
+    requires { ⌜ length (now state) ≡ stateSize ⌝ }
+    requires { ⌜ number ≡ stateNumber (stateOf (now state)) (length (now medium)) ⌝ }
+    requires { ⌜ 8 ≤ length (now lines) ⌝ }
+    ensures { λ _. ⌜ records (point (stateOf (now (state .exit))) (storeOf (now (medium .exit)))) (now (session .exit)) (now (lines .exit))
+        ≡ afterFirst framing size (point (stateOf (now (state .entry))) (storeOf (now (medium .entry)))) (now (session .entry)) (now (lines .entry)) ⌝ }
+{
+    record_framed(
+        framing,
+        number,
+        state,
+        medium,
+        &mut session[..size],
+        &mut lines[..8],
+    )
 }
 
 // Handles the requests of a session in order, until none is whole or the record is full, and gives their number. The rules of the state
 // are tested once, since no request breaks them.
-pub fn run(state: &mut [u8], medium: &mut [u8], session: &mut [u8], lines: &mut [u8]) -> usize
+pub fn run(
+    framing: Framing,
+    state: &mut [u8],
+    medium: &mut [u8],
+    session: &mut [u8],
+    lines: &mut [u8],
+) -> usize
     requires { ⌜ length (now state) ≡ stateSize ⌝ }
     ensures { λ r. ⌜ ran r (storeOf (now (medium .exit))) (now (session .exit)) (now (lines .exit))
-        ≡ ranFrom (length (now (lines .entry)) / 8) (point (stateOf (now (state .entry))) (storeOf (now (medium .entry))))
+        ≡ ranFrom framing (length (now (lines .entry)) / 8) (point (stateOf (now (state .entry))) (storeOf (now (medium .entry))))
         (now (session .entry)) (now (lines .entry)) ⌝ }
 {
     let number = dispatch::state_number(state, medium.len());
@@ -107,20 +136,22 @@ pub fn run(state: &mut [u8], medium: &mut [u8], session: &mut [u8], lines: &mut 
     let mut count = 0;
     let room = lines.len() / 8;
     while count < room {
-        let end = end_from(session, at);
-        if end == at {
+        let size = first_size(framing, &session[at..]);
+        if size == 0 {
             return count;
         }
         let line = 8 * count;
-        count += 1;
-        record_sized(
+        record_first(
+            framing,
+            size,
             number,
             state,
             medium,
-            &mut session[at..end],
-            &mut lines[line..line + 8],
+            &mut session[at..],
+            &mut lines[line..],
         );
-        at = end;
+        at += size;
+        count += 1;
     }
     count
 }

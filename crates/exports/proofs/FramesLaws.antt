@@ -1,0 +1,53 @@
+-- The bytes that the first request of a session stands in. Assumes nothing.
+use mathlib.Core.Path.{_≡_, refl}
+use mathlib.Core.Bool.{Bool, true, false}
+use mathlib.Core.List.{List}
+use Prim.Native.Nat.{ℕ, _+_, _<_, _≤_}
+use native.Mathlib.Omega.{arith}
+use lib.Dec.{leb}
+use lib.ListN.{length, take}
+use lib.Seq.{length-take-le}
+use borrow.Author.Tests.{le-leb, lt-leb}
+use Rattle.laws.specs.Choice.{came-then}
+use Rattle.exports.specs.declared.frames.Framing.{Framing}
+use Rattle.exports.specs.declared.frames.Framing.the-variants.{FirstHeader, BothHeaders}
+use Rattle.exports.specs.declared.frames.Prefix.{Prefix}
+use Rattle.exports.specs.Frames.{prefixSize, prefixOf, saysKind, saidSize, firstSize}
+
+-- ---- a match on the framing
+
+pub length-there : (f : Framing) (n : ℕ) → f ≡ FirstHeader → prefixSize f ≤ n → 4 ≤ n
+length-there f n e h = rw e at h
+
+pub header-there : (f : Framing) (k n : ℕ) → f ≡ BothHeaders → prefixSize f ≤ n → k ≤ 12 → k ≤ n
+header-there f k n e h l = let m : 12 ≤ n = rw e at h in omega arith
+
+-- ---- the code's tests
+
+module _ (f : Framing) (session : List ℕ) (before : ℕ) (e : before ≡ prefixSize f) where
+  pub first-short : length session < before → 0 ≡ firstSize f session
+  unfolding firstSize
+  first-short h = rw (← e, lt-leb before (length session) h) refl
+
+  module _ (x : Prefix) (p : x ≡ prefixOf f session) (says : Bool) (s : says ≡ saysKind x) (h : before ≤ length session) where
+    pub first-unsaid : says ≡ false → 0 ≡ firstSize f session
+    unfolding firstSize
+    first-unsaid q = rw (← e, le-leb before (length session) h, ← p, ← s, q) refl
+
+    pub first-cut : says ≡ true → length session < before + x .length → 0 ≡ firstSize f session
+    unfolding firstSize
+    first-cut q c = rw (← e, le-leb before (length session) h, ← p, ← s, q, lt-leb (before + x .length) (length session) c) refl
+
+    pub first-whole : says ≡ true → before + x .length ≤ length session → before + x .length ≡ firstSize f session
+    unfolding firstSize
+    first-whole q c = rw (← e, le-leb before (length session) h, ← p, ← s, q, le-leb (before + x .length) (length session) c) refl
+
+-- ---- a whole request
+
+-- it has what stands before it
+pub first-prefix : (f : Framing) (session : List ℕ) (size : ℕ) → size ≡ firstSize f session → (size ≡ 0 → ⊥) → prefixSize f ≤ size
+unfolding firstSize
+first-prefix f session size e h =
+    let a = came-then (λ (n : ℕ). size ≡ n) (leb (prefixSize f) (length session)) h e in
+    let b = came-then (λ (n : ℕ). size ≡ n) (saysKind (prefixOf f session)) h (a .1) in
+    omega (arith, came-then (λ (n : ℕ). size ≡ n) (leb (saidSize f session) (length session)) h (b .1) .1)
