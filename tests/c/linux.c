@@ -24,18 +24,10 @@ static void break_checks(unsigned faults)
         lent.buffer[LINUX] = PHYS;
 }
 
-/* The class; the negotiated rate, the minimum and the maximum. */
-static int phy_is_set(void)
-{
-    const uint8_t *entity = lent.state + ASCHEKNOPF_PHY(0) + ASCHEKNOPF_PHY_ENTITY;
-    return answered(0) && entity[21] == 2 && entity[29] == 8 && entity[30] == 0x88 && entity[31] == 0x89
-        && state_but(ASCHEKNOPF_PHY(0) + 21, 11) && medium_stays();
-}
-
 /* 0 is granted, from 100 to 107 is the call's own number, and all others are return codes. */
 static int answer_is(uint32_t answer)
 {
-    return answer == 0 ? phy_is_set() : answer >= 100 && answer <= 107 ? number_alone(answer) : code_alone(answer);
+    return answer == 0 ? answered(0) && phy_is_set() : answer >= 100 && answer <= 107 ? number_alone(answer) : code_alone(answer);
 }
 
 /* Of the checks that fail the first one decides; where none does, the request is granted at every level. */

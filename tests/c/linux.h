@@ -5,6 +5,9 @@
 #include "asked.h"
 #include "lent.h"
 
+/* Some buffers are longer by this than the structure. */
+enum { MORE = 7 };
+
 /* An adapter as it is opened at a level, to begin again from. */
 static struct lent sound;
 
@@ -53,6 +56,14 @@ static inline int code_alone(uint32_t code)
     int right = answered(code);
     memcpy(lent.buffer + LINUX_CODE, before.buffer + LINUX_CODE, 4);
     return right && untouched();
+}
+
+/* Set phy info left phy 0 with its class, and with its negotiated, minimum and maximum rate; all else is as it was. */
+static inline int phy_is_set(void)
+{
+    const uint8_t *entity = lent.state + ASCHEKNOPF_PHY(0) + ASCHEKNOPF_PHY_ENTITY;
+    return entity[21] == 2 && entity[29] == 8 && entity[30] == 0x88 && entity[31] == 0x89 && medium_stays()
+        && state_but(ASCHEKNOPF_PHY(0) + 21, 11) && memcmp(entity + 22, before.state + ASCHEKNOPF_PHY(0) + 22, 7) == 0;
 }
 
 #endif

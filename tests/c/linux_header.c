@@ -3,9 +3,6 @@
 #define PROGRAM "linux_header.c"
 #include "linux.h"
 
-/* Some buffers are longer by this than the structure. */
-enum { MORE = 7 };
-
 static void put_direction(unsigned direction)
 {
     lent.buffer[LINUX_DIRECTION] = direction & 0xFF;
