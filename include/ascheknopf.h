@@ -1,17 +1,18 @@
 /* Ascheknopf, a simulator of a SAS host adapter, for programs in C and C++. `rt staticlib exports` makes the archive to link,
    target/staticlib/libexports.a; it needs nothing but the C library.
 
-   The simulator is two calls: ascheknopf_open opens an adapter, and ascheknopf_request handles one request. ascheknopf_run does both for
-   a whole session. All work on bytes that the caller lends; they allocate nothing and keep nothing between calls. Any bytes of any length
-   may be given, as a state too: what is wrong gets its number. A buffer that is written must not overlap another. A pointer may be null
-   where its length is 0.
+   The simulator is two calls: ascheknopf_open opens an adapter, and ascheknopf_request handles one request, under the first header;
+   ascheknopf_request_linux does so under the Linux header. ascheknopf_run opens an adapter and handles a whole session, and
+   ascheknopf_run_both a session of both headers. All work on bytes that the caller lends; they allocate nothing and keep nothing between
+   calls. Any bytes of any length may be given, as a state too: what is wrong gets its number. A buffer that is written must not overlap
+   another. A pointer may be null where its length is 0.
 
    text     the level text, such as "CSMI=Full;", without a final zero byte
    file     the adapter file; its byte 0 is the number of phys, 1 to 32 (the program's limit of 7 is not the library's)
    medium   the disks of the phys, 8,192 bytes each
    state    what the adapter remembers between calls, ASCHEKNOPF_STATE_SIZE bytes, described below
-   buffer   one request, which begins with the 28-byte SRB_IO_CONTROL of CSMI, and then its reply
-   session  requests one after the other: for each a length of 4 bytes, then so many bytes
+   buffer   one request, which begins with the 28-byte SRB_IO_CONTROL of CSMI or with the 20-byte Linux header, and then its reply
+   session  requests one after the other: for each a length of 4 bytes, then so many bytes; of both headers: 12 bytes, described below
    record   a line of 8 bytes for each request: 4 bytes the call's number, 4 bytes the return code
 
    All numbers in these bytes are little-endian. A call's number is document 01's; a return code is that of section 10 of T10 04-284r0,
@@ -76,6 +77,22 @@ uint32_t ascheknopf_request(uint8_t *state, size_t state_len,
                             uint8_t *medium, size_t medium_len,
                             uint8_t *buffer, size_t buffer_len);
 
+/* The Linux header (IOCTL_HEADER, 4.2.3.1): 18 bytes, and two that are ignored. */
+#define ASCHEKNOPF_LINUX_SIZE 20
+#define ASCHEKNOPF_LINUX_CONTROLLER 0  /* IOControllerNumber, 4 bytes; not read */
+#define ASCHEKNOPF_LINUX_LENGTH 4      /* Length, 4 bytes: it counts these 20 bytes too */
+#define ASCHEKNOPF_LINUX_RETURN_CODE 8 /* ReturnCode, 4 bytes */
+#define ASCHEKNOPF_LINUX_TIMEOUT 12    /* Timeout, 4 bytes; not read */
+#define ASCHEKNOPF_LINUX_DIRECTION 16  /* Direction, 2 bytes: 0 read, 1 write; any other is return code 3 */
+
+/* Handles one request under the Linux header, as ascheknopf_request does one under the first. Its control code is handed in beside the
+   buffer: document 01's number, such as 1 for get driver info, and not an ioctl number of Linux. A buffer under 20 bytes is 100. There is
+   no signature, the level is taken for Full, and the return code is in bytes 8 to 11 of the reply. */
+uint32_t ascheknopf_request_linux(uint8_t *state, size_t state_len,
+                                  uint8_t *medium, size_t medium_len,
+                                  uint32_t control,
+                                  uint8_t *buffer, size_t buffer_len);
+
 /* The return code in the line of a request that got none. */
 #define ASCHEKNOPF_NO_CODE 0xFFFFFFFFu
 
@@ -91,6 +108,25 @@ size_t ascheknopf_run(const uint8_t *text, size_t text_len,
                       uint8_t *medium, size_t medium_len,
                       uint8_t *session, size_t session_len,
                       uint8_t *record, size_t record_len);
+
+/* What stands before each request of a session of both headers: 12 bytes. */
+#define ASCHEKNOPF_PREFIX_SIZE 12
+#define ASCHEKNOPF_PREFIX_HEADER 0  /* 4 bytes: one of the two below */
+#define ASCHEKNOPF_PREFIX_CONTROL 4 /* 4 bytes: the control code beside the Linux header; 0 with the first header, which has it inside */
+#define ASCHEKNOPF_PREFIX_LENGTH 8  /* 4 bytes: of the request, without these 12 */
+
+#define ASCHEKNOPF_FIRST_HEADER 0
+#define ASCHEKNOPF_LINUX_HEADER 1
+
+/* Opens the adapter and handles a session of both headers, as ascheknopf_run does one of the first. The 12 bytes before each request stay.
+   A request under the Linux header is handled as by ascheknopf_request_linux: under 20 bytes it gets 100, and the code in its line is that
+   of its bytes 8 to 11. Any other header, and a control code other than 0 with the first header, end the session as a request that is cut
+   short does. */
+size_t ascheknopf_run_both(const uint8_t *text, size_t text_len,
+                           const uint8_t *file, size_t file_len,
+                           uint8_t *medium, size_t medium_len,
+                           uint8_t *session, size_t session_len,
+                           uint8_t *record, size_t record_len);
 
 #ifdef __cplusplus
 }

@@ -5,22 +5,32 @@ use mathlib.Core.List.{List}
 use Prim.Native.Nat.{ℕ, _+_, _<_, _≤_}
 use native.Mathlib.Omega.{arith}
 use lib.Dec.{leb}
-use lib.ListN.{length, take}
-use lib.Seq.{length-take-le}
+use lib.ListN.{length}
 use borrow.Author.Tests.{le-leb, lt-leb}
 use Rattle.laws.specs.Choice.{came-then}
+use Rattle.laws.specs.Splice.{part}
+use Rattle.wire.specs.Number.{number}
 use Rattle.exports.specs.declared.frames.Framing.{Framing}
 use Rattle.exports.specs.declared.frames.Framing.the-variants.{FirstHeader, BothHeaders}
 use Rattle.exports.specs.declared.frames.Prefix.{Prefix}
-use Rattle.exports.specs.Frames.{prefixSize, prefixOf, saysKind, saidSize, firstSize}
+use Rattle.exports.specs.Frames.{prefixSize, prefixed, prefixOf, saysKind, saidSize, firstSize}
 
 -- ---- a match on the framing
 
-pub length-there : (f : Framing) (n : ℕ) → f ≡ FirstHeader → prefixSize f ≤ n → 4 ≤ n
-length-there f n e h = rw e at h
+module _ (f : Framing) (e : f ≡ FirstHeader) where
+  pub length-there : (n : ℕ) → prefixSize f ≤ n → 4 ≤ n
+  length-there n h = rw e at h
 
-pub header-there : (f : Framing) (k n : ℕ) → f ≡ BothHeaders → prefixSize f ≤ n → k ≤ 12 → k ≤ n
-header-there f k n e h l = let m : 12 ≤ n = rw e at h in omega arith
+  pub length-read : (session : List ℕ) (length : ℕ) → length ≡ number (part session 0 4) → prefixed 0 0 length ≡ prefixOf f session
+  length-read session length l = rw (e, l) refl
+
+module _ (f : Framing) (e : f ≡ BothHeaders) where
+  pub header-there : (k n : ℕ) → prefixSize f ≤ n → k ≤ 12 → k ≤ n
+  header-there k n h l = let m : 12 ≤ n = rw e at h in omega arith
+
+  pub header-read : (session : List ℕ) (header control length : ℕ) → header ≡ number (part session 0 4) → control ≡ number (part session 4 4)
+      → length ≡ number (part session 8 4) → prefixed header control length ≡ prefixOf f session
+  header-read session header control length h c l = rw (e, h, c, l) refl
 
 -- ---- the code's tests
 

@@ -1,4 +1,5 @@
 -- The laws that the proofs of this crate cite.
 pub mod FramesLaws
-pub mod Laws
+pub mod RequestLaws
 pub mod RunLaws
+pub mod StateLaws

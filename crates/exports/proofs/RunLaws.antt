@@ -1,31 +1,24 @@
 -- The run of a session, request by request, as the loop goes. Assumes nothing.
 use mathlib.Core.Path.{_≡_, refl, sym, _∙_, ap}
-use mathlib.Core.Bool.{Bool, true, false}
-use mathlib.Core.List.{List, [], _∷_, _++_, append-assoc, append-nil}
-use Prim.Native.Nat.{ℕ, zero, suc, _+_, _-_, _*_, _/_, _<_, _≤_}
+use mathlib.Core.List.{List, _∷_, _++_, append-assoc, append-nil}
+use Prim.Native.Nat.{ℕ, zero, suc, _+_, _-_, _*_, _<_, _≤_}
 use native.Mathlib.Nat.{add-assoc, sub-zero, add-zero, zero-add}
 use native.Mathlib.Omega.{arith}
 use lib.ListN.{length, take, drop, length-append, length-drop, take-append-drop}
 use lib.Seq.{take-at, drop-at, take-append-add, drop-append-add, drop-drop, take-take, length-take-le}
 use borrow.Author.Tests.{eq-eqb, ne-eqb}
-use Rattle.laws.specs.Choice.{by-bool}
 use Rattle.laws.specs.Splice.{rest, rest-end}
 use Rattle.laws.specs.Runs.{ends, log}
 use Rattle.wire.specs.Number.{bytes}
 use Rattle.wire.proofs.NumberLaws.{length-bytes}
-use Rattle.state.specs.State.{State, stateSize, stateOf, stateHolds}
-use Rattle.state.proofs.Laws.{state-phys}
-use Rattle.state.specs.Open.{Opened, OpenCall}
-use Rattle.tables.proofs.Laws.{tables-phys, tables-entity}
+use Rattle.state.specs.State.{State}
 use Rattle.header.specs.Sent.{Request}
-use Rattle.service.specs.Serve.{Store, storeOf}
-use Rattle.dispatch.specs.Request.{Point, point, Outcome, stateNumber, pointNumber, handled}
+use Rattle.service.specs.Serve.{Store}
+use Rattle.dispatch.specs.Request.{Point, point, handled}
 use Rattle.claims.specs.Run.{Exchange, Entry, End, exchangeOf, step, entryOf, run}
-use Rattle.claims.proofs.Moved.{Sized}
-use Rattle.claims.proofs.Reached.{refused-stays, number-step}
 use Rattle.exports.specs.declared.frames.Framing.{Framing}
 use Rattle.exports.specs.Frames.{prefixSize, firstSize, firstOf, behindFirst, requestIn, requestsOf}
-use Rattle.exports.specs.Session.{withReplies, codeOf, lineOf, linesOf, Ran, ran, shown, sessionRun, ranFrom, Recorded, records, afterFramed, behindIt, afterFirst}
+use Rattle.exports.specs.Session.{withReplies, codeOf, lineOf, linesOf, Ran, ran, shown, ranFrom, Recorded, records, afterFramed, beforeRests, afterFirst}
 use Rattle.exports.proofs.FramesLaws.{first-prefix}
 
 -- a run's bytes behind those of the requests before it
@@ -81,7 +74,7 @@ module _ (f : Framing) (p : Point) (session lines : List ℕ) where
   unfolding afterFirst
   ran-first size s b h q session′ lines′ e l room =
       let k : ℕ = firstSize f session in
-      let d : records q session′ lines′ ≡ behindIt (drop k session) (drop 8 lines) first = rw s at e in
+      let d : records q session′ lines′ ≡ beforeRests (drop k session) (drop 8 lines) first = rw s at e in
       let a : session′ ≡ first .bytes ++ drop k session = ap (λ (x : Recorded). x .bytes) d in
       let c : lines′ ≡ first .line ++ drop 8 lines = ap (λ (x : Recorded). x .line) d in
       let n : length (first .bytes) ≡ k = omega (arith, simp (length-append, length-drop) at (ap length a)) in
@@ -173,40 +166,3 @@ module _ (f : Framing) (r : Ran) (s : State) (store : Store) (session lines : Li
           (rw (m, ← rest session at, ← rest lines (8 * count)) (ran-first f here (lent session at) (lent lines (8 * count)) size n b h q session′ lines′ e l (room - (count + 1))))
           ∙ behind-behind count (take at session) (take size session′) (take (8 * count) lines) (take 8 lines′)
           (ranFrom f (room - (count + 1)) q (drop size session′) (drop 8 lines′)))
-
--- ---- the number of the state and the medium
-
--- the arrays of a lent state have the lengths of their types
-sized-lent : (t : List ℕ) → length t ≡ stateSize → stateHolds (stateOf t) ≡ true → Sized (stateOf t .adapter)
-unfolding stateOf
-sized-lent t e h =
-    record {
-      phys = tables-phys (drop 1 t);
-      entities = λ n l. tables-entity (drop 1 t) n (rw (length-drop, e) refl) (omega (arith, state-phys (stateOf t) true (sym h) refl));
-    }
-
--- it stays; a state that 107 refuses is not touched
-number-kept : (t medium : List ℕ) (r : Request) → length t ≡ stateSize
-    → pointNumber (handled (point (stateOf t) (storeOf medium)) r .point) ≡ pointNumber (point (stateOf t) (storeOf medium))
-unfolding stateNumber
-number-kept t medium r e =
-    let p : Point = point (stateOf t) (storeOf medium) in
-    by-bool (λ (b : Bool). stateHolds (stateOf t) ≡ b → pointNumber (handled p r .point) ≡ pointNumber p)
-    (λ h. number-step p r (sized-lent t e h))
-    (λ h. ap (λ (o : Outcome). pointNumber (o .point)) (refused-stays p r (rw h refl)))
-    (stateHolds (stateOf t)) refl
-
-pub number-next : (f : Framing) (size : ℕ) (t t′ medium medium′ session session′ lines lines′ : List ℕ) (number : ℕ)
-    → records (point (stateOf t′) (storeOf medium′)) session′ lines′ ≡ afterFirst f size (point (stateOf t) (storeOf medium)) session lines
-    → length t ≡ stateSize → number ≡ stateNumber (stateOf t) (length medium) → number ≡ stateNumber (stateOf t′) (length medium′)
-unfolding afterFirst afterFramed
-number-next f size t t′ medium medium′ session session′ lines lines′ number p e n =
-    n ∙ sym (number-kept t medium (requestIn f (take size session)) e) ∙ sym (ap (λ (x : Recorded). pointNumber (x .point)) p)
-
--- ---- the whole run
-
-pub opened-ran : (f : Framing) (text file medium state after : List ℕ) (call : ℕ) → OpenCall text file medium state call after → length state ≡ stateSize
-    → (session lines : List ℕ) (r : Ran) → r ≡ ranFrom f (length lines / 8) (point (stateOf after) (storeOf medium)) session lines
-    → r ≡ sessionRun f text file (storeOf medium) session lines
-unfolding sessionRun ranFrom
-opened-ran f text file medium state after call o e session lines r p = rw (ap (λ (x : Opened). x .state) (o .whole e)) at p

@@ -1,6 +1,6 @@
--- What stands before each request of a session: in the program's format (document 01, "Starred cases", its last paragraphs) a length, and in a
--- session of both headers (W-201) also which header the request has and its control code. The program's limit of 32,768 bytes for a request is not the
--- library's, which has each request in memory already. Assumes nothing.
+-- What stands before each request of a session. In the program's format that is its length (document 01, "Starred cases", its last paragraphs); in
+-- a session of both headers (W-201) it is which header the request has, its control code and its length. The program's limit of 32,768 bytes for a request
+-- is not the library's, which has each request in memory already. Assumes nothing.
 use mathlib.Core.Bool.{Bool, cond}
 use mathlib.Core.List.{List, [], _∷_}
 use Prim.Native.Nat.{ℕ, zero, suc, _+_}
@@ -17,23 +17,24 @@ use Rattle.exports.specs.declared.frames.Prefix.{Prefix}
 
 -- ---- before a request
 
-abbrev pub prefixed : ℕ → ℕ → ℕ → Prefix
-prefixed header control length = record { header = header; control = control; length = length }
-
 -- the bytes before its own
 abbrev pub prefixSize : Framing → ℕ
 prefixSize FirstHeader = 4
 prefixSize BothHeaders = 12
 
--- "a 4-byte length"; or its header, its control code and then its length
+abbrev pub prefixed : ℕ → ℕ → ℕ → Prefix
+prefixed header control length = record { header = header; control = control; length = length }
+
+-- "each request a 4-byte length"; or its header, its control code and its length
 abbrev pub prefixOf : Framing → List ℕ → Prefix
 prefixOf FirstHeader session = prefixed 0 0 (number (part session 0 4))
 prefixOf BothHeaders session = prefixed (number (part session 0 4)) (number (part session 4 4)) (number (part session 8 4))
 
--- 0 is the first header, which has the control code in it, and 1 the Linux header
+-- it says a header: 0, the first, beside which no control code stands since that header has it, or 1, the Linux header
 unfoldable pub saysKind : Prefix → Bool
 saysKind x = cond (eqb (x .header) 0) (eqb (x .control) 0) (eqb (x .header) 1)
 
+-- which of the two
 unfoldable pub kindOf : Prefix → Kind
 kindOf x = cond (eqb (x .header) 0) Srb (Linux (x .control))
 
@@ -43,7 +44,7 @@ kindOf x = cond (eqb (x .header) 0) Srb (Linux (x .control))
 abbrev pub saidSize : Framing → List ℕ → ℕ
 saidSize f session = prefixSize f + prefixOf f session .length
 
--- those that it stands in: 0 for "a short .. last one", and for one that says no header, which "ends it"
+-- those that it stands in; 0 for "a short .. last one" and for one that says no header: this "ends it"
 unfoldable pub firstSize : Framing → List ℕ → ℕ
 firstSize f session =
     cond (leb (prefixSize f) (length session))
@@ -58,7 +59,7 @@ behindFirst f session = drop (firstSize f session) session
 
 -- ---- the requests
 
--- the one that stands in such bytes
+-- the one that stands in some bytes, behind its prefix
 abbrev pub requestIn : Framing → List ℕ → Request
 requestIn f bytes = sent (kindOf (prefixOf f bytes)) (drop (prefixSize f) bytes)
 

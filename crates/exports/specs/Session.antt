@@ -71,17 +71,18 @@ records p bytes line = record { point = p; bytes = bytes; line = line }
 abbrev pub afterRequest : Request → Outcome → Recorded
 afterRequest r o = records (o .point) (o .buffer) (lineOf (exchangeOf r o))
 
--- behind what stands before it
+-- behind its prefix
 abbrev pub behindPrefix : List ℕ → Recorded → Recorded
 behindPrefix prefix x = records (x .point) (prefix ++ x .bytes) (x .line)
 
--- what the request that stands in such bytes leaves
+-- what a request leaves, in the bytes that it stands in
 unfoldable pub afterFramed : Framing → Point → List ℕ → Recorded
 afterFramed f p bytes = behindPrefix (take (prefixSize f) bytes) (afterRequest (requestIn f bytes) (handled p (requestIn f bytes)))
 
--- what a request in the first so many bytes of a session leaves, in the whole session and the whole record
-abbrev pub behindIt : List ℕ → List ℕ → Recorded → Recorded
-behindIt session lines x = records (x .point) (x .bytes ++ session) (x .line ++ lines)
+-- before the rest of a session and of a record
+abbrev pub beforeRests : List ℕ → List ℕ → Recorded → Recorded
+beforeRests session lines x = records (x .point) (x .bytes ++ session) (x .line ++ lines)
 
+-- what the first so many bytes of a session leave, in the whole of it and of a record
 unfoldable pub afterFirst : Framing → ℕ → Point → List ℕ → List ℕ → Recorded
-afterFirst f size p session lines = behindIt (drop size session) (drop 8 lines) (afterFramed f p (take size session))
+afterFirst f size p session lines = beforeRests (drop size session) (drop 8 lines) (afterFramed f p (take size session))

@@ -1,5 +1,5 @@
 -- `exports::open_and_run` meets its contract. Assumes nothing.
-use Rattle.exports.proofs.RunLaws.{opened-ran}
+use Rattle.exports.proofs.StateLaws.{opened-ran}
 use borrow.Author.Needs.{needs}
 use Rattle.exports.proofs.open_and_run.Statement.{statement}
 use Rattle.exports.proofs.open_and_run.Tie as tie

@@ -1,6 +1,6 @@
 -- `exports::frames::read_prefix` meets its contract. Assumes nothing.
 use borrow.Author.Needs.{needs}
-use Rattle.exports.proofs.FramesLaws.{length-there, header-there}
+use Rattle.exports.proofs.FramesLaws.{length-there, length-read, header-there, header-read}
 use Rattle.exports.proofs.frames.read_prefix.Statement.{statement}
 use Rattle.exports.proofs.frames.read_prefix.Tie as tie
 
@@ -8,4 +8,4 @@ pub read-prefix-spec : {M : Type 1} → statement M
 read-prefix-spec =
     tie.close
     (tie.spec (λ c. search needs) (λ c κs. search (length-there, needs)) (λ c. search needs) (λ c κs. search (header-there, needs))
-    (λ c κs. search (header-there, needs)) (λ c κs. search (header-there, needs)) (λ c. cc) (λ c. cc))
+    (λ c κs. search (header-there, needs)) (λ c κs. search (header-there, needs)) (λ c. search (length-read, needs)) (λ c. search (header-read, needs)))

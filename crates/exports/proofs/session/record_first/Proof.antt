@@ -1,6 +1,6 @@
 -- `exports::session::record_first` meets its contract. Assumes nothing.
 use lib.Seq.{length-take-le}
-use Rattle.exports.proofs.Laws.{front-lent, prefix-lent, first-left}
+use Rattle.exports.proofs.RequestLaws.{front-lent, prefix-lent, first-left}
 use borrow.Author.Needs.{needs}
 use Rattle.exports.proofs.session.record_first.Statement.{statement}
 use Rattle.exports.proofs.session.record_first.Tie as tie

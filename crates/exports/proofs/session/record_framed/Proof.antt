@@ -1,5 +1,5 @@
 -- `exports::session::record_framed` meets its contract. Assumes nothing.
-use Rattle.exports.proofs.Laws.{framed-left}
+use Rattle.exports.proofs.RequestLaws.{framed-left}
 use borrow.Author.Needs.{needs}
 use Rattle.exports.proofs.session.record_framed.Statement.{statement}
 use Rattle.exports.proofs.session.record_framed.Tie as tie

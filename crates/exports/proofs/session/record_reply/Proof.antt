@@ -1,5 +1,5 @@
 -- `exports::session::record_reply` meets its contract. Assumes nothing.
-use Rattle.exports.proofs.Laws.{replied-left}
+use Rattle.exports.proofs.RequestLaws.{replied-left}
 use borrow.Author.Needs.{needs}
 use Rattle.exports.proofs.session.record_reply.Statement.{statement}
 use Rattle.exports.proofs.session.record_reply.Tie as tie

@@ -1,5 +1,5 @@
 -- `exports::session::record_request` meets its contract. Assumes nothing.
-use Rattle.exports.proofs.Laws.{handled-refused, handled-replied, reply-buffer, reply-medium, reply-state}
+use Rattle.exports.proofs.RequestLaws.{handled-refused, handled-replied, reply-buffer, reply-medium, reply-state}
 use borrow.Author.Needs.{needs}
 use Rattle.exports.proofs.session.record_request.Statement.{statement}
 use Rattle.exports.proofs.session.record_request.Tie as tie

@@ -7,7 +7,8 @@ use Rattle.service.specs.Serve.{storeOf}
 use Rattle.dispatch.specs.Request.{point, stateNumber}
 use Rattle.exports.specs.Session.{ranFrom}
 use Rattle.exports.proofs.FramesLaws.{first-prefix}
-use Rattle.exports.proofs.RunLaws.{ranAfter, run-starts, run-ends, run-full, run-goes-on, number-next}
+use Rattle.exports.proofs.RunLaws.{ranAfter, run-starts, run-ends, run-full, run-goes-on}
+use Rattle.exports.proofs.StateLaws.{number-next}
 use borrow.Author.Needs.{needs}
 use Rattle.exports.proofs.session.run.Statement.{statement}
 use Rattle.exports.proofs.session.run.Tie as tie

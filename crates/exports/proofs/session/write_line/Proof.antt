@@ -1,5 +1,5 @@
 -- `exports::session::write_line` meets its contract. Assumes nothing.
-use Rattle.exports.proofs.Laws.{line-written}
+use Rattle.exports.proofs.RequestLaws.{line-written}
 use borrow.Author.Needs.{needs}
 use Rattle.exports.proofs.session.write_line.Statement.{statement}
 use Rattle.exports.proofs.session.write_line.Tie as tie

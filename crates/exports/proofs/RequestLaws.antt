@@ -22,7 +22,7 @@ use Rattle.dispatch.proofs.Laws.{heard-state, heard-medium, heard-room}
 use Rattle.exports.specs.declared.frames.Framing.{Framing}
 use Rattle.exports.specs.declared.frames.Prefix.{Prefix}
 use Rattle.exports.specs.Frames.{prefixSize, prefixOf, kindOf}
-use Rattle.exports.specs.Session.{codeOf, Recorded, records, afterRequest, behindPrefix, afterFramed, behindIt, afterFirst}
+use Rattle.exports.specs.Session.{codeOf, Recorded, records, afterRequest, behindPrefix, afterFramed, beforeRests, afterFirst}
 
 -- ---- a line of the record
 
@@ -104,4 +104,4 @@ framed-left f kind x before p q request buffer line a k b e =
 pub first-left : (f : Framing) (size : ℕ) (p q : Point) (session request lines line : List ℕ) → records q request line ≡ afterFramed f p (take size session)
     → records q (request ++ drop size session) (line ++ drop 8 lines) ≡ afterFirst f size p session lines
 unfolding afterFirst
-first-left f size p q session request lines line e = ap (behindIt (drop size session) (drop 8 lines)) e
+first-left f size p q session request lines line e = ap (beforeRests (drop size session) (drop 8 lines)) e
