@@ -6,8 +6,8 @@
 #include <stdio.h>
 #include <string.h>
 
-/* Sizes of the two headers, and where the return code is in each. */
-enum { FIRST = 28, FIRST_CODE = 20, LINUX = 20, LINUX_CODE = 8 };
+/* The first header's size, and where its return code is; of the Linux header include/ascheknopf.h says it. */
+enum { FIRST = 28, FIRST_CODE = 20, LINUX = ASCHEKNOPF_LINUX_SIZE };
 enum { DATA_READ = 0, DATA_WRITE = 1 };
 enum { SECTOR = 512, DISK = 8192, LARGEST = 2052 };
 
@@ -97,11 +97,11 @@ static const uint8_t *send_first(const struct request *r)
 static const uint8_t *send_linux(const struct request *r)
 {
     memset(buffer, 0, LINUX);
-    put_word(buffer + 4, LINUX + (uint32_t)r->size);
-    buffer[16] = r->direction;
+    put_word(buffer + ASCHEKNOPF_LINUX_LENGTH, LINUX + (uint32_t)r->size);
+    buffer[ASCHEKNOPF_LINUX_DIRECTION] = r->direction;
     memcpy(buffer + LINUX, r->body, r->size);
     uint32_t number = ascheknopf_request_linux(state, sizeof state, medium, medium_len, r->control, buffer, LINUX + r->size);
-    return reply_body("Linux header", number, LINUX_CODE, LINUX);
+    return reply_body("Linux header", number, ASCHEKNOPF_LINUX_RETURN_CODE, LINUX);
 }
 
 /* Sends a request under both headers; what came of it is shown after each. */

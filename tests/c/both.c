@@ -130,6 +130,14 @@ static void long_request(uint32_t length, uint32_t code)
                                        && (memcmp(buffer + LINUX, run.file + 4, 174) == 0) == (code == 0));
 }
 
+/* What the header file calls the three numbers. */
+static void places(void)
+{
+    check("their places", ASCHEKNOPF_PREFIX_SIZE == BEFORE && ASCHEKNOPF_PREFIX_HEADER == 0 && ASCHEKNOPF_PREFIX_CONTROL == 4
+                          && ASCHEKNOPF_PREFIX_LENGTH == 8);
+    check("the headers", ASCHEKNOPF_FIRST_HEADER == UNDER_FIRST && ASCHEKNOPF_LINUX_HEADER == UNDER_LINUX);
+}
+
 /* A null pointer with length 0, for each argument and for all. */
 static void null_pointers(void)
 {
@@ -160,6 +168,7 @@ int main(void)
     const uint32_t full[REQUESTS] = {0, 0, 0, 0, 0, 0, 0, 0, 0, 0, 0, 0, NONE, NONE, 3, 2, 3, 3};
 
     make_mixed();
+    places();
     lines("CSMI=None;", none);
     lines("", low);
     lines(FULL, full);

@@ -151,8 +151,19 @@ static void null_pointers(void)
     check("null: all", ascheknopf_request_linux(NULL, 0, NULL, 0, 1, NULL, 0) == 107);
 }
 
+/* What the header file calls the places of 4.2.3.1. */
+static void places(void)
+{
+    check("size", ASCHEKNOPF_LINUX_SIZE == 20);
+    check("controller and timeout", ASCHEKNOPF_LINUX_CONTROLLER == 0 && ASCHEKNOPF_LINUX_TIMEOUT == 12);
+    check("Length", ASCHEKNOPF_LINUX_LENGTH == 4);
+    check("return code", ASCHEKNOPF_LINUX_RETURN_CODE == 8);
+    check("Direction", ASCHEKNOPF_LINUX_DIRECTION == 16);
+}
+
 int main(void)
 {
+    places();
     for (int level = 0; level < 4; level++) {
         order(level);
         states(level);
