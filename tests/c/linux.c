@@ -17,7 +17,7 @@ static void break_checks(unsigned faults)
     if (faults & DIRECTION)
         lent.buffer[LINUX_DIRECTION] = 2;
     if (faults & CONTROL)
-        control = 23;
+        control = 24;
     if (faults & LENGTH)
         lent.buffer[LINUX_LENGTH]--;
     if (faults & OWN)
@@ -64,7 +64,7 @@ static void buffers(void)
     lent = sound;
     ask(&GRANTED[SET_PHY_INFO], 0);
     lent.buffer_len = LINUX;
-    control = 23;
+    control = 24;
     check("a header alone: unknown code", code_alone(2));
     lent.buffer[LINUX_DIRECTION] = 2;
     check("a header alone: Direction", code_alone(3));

@@ -105,7 +105,7 @@ static void signatures(const struct asked *a)
     ask(a, 0);
     memcpy(lent.buffer + 4, a->control == 1 ? "CSMIALL" : "CSMISAS", 8);
     int right = code_alone(3);
-    control = 23;
+    control = 24;
     check_asked("a signature", a, 4, right && code_alone(2));
     lent = sound;
     ask(a, 0);
