@@ -1,56 +1,14 @@
 /* The two calls of include/ascheknopf.h: an opening, requests one at a time, and refusals that touch nothing. What is expected was written
    down from document 01 and the description of samples/good. Runs in the repository's root. */
-#include "ascheknopf.h"
-
 #define PROGRAM "calls.c"
-#include "check.h"
+#include "lent.h"
 
-enum { PHYS = 4, ROWS = 3, FILE_SIZE = 6 * 512, DISK = 8192, SECTOR = 512, HEADER = 28, CODE = 20, MOST = HEADER + 2052 };
-
-static const char FULL[] = "CSMI=Full;";
-
-/* What the calls get. State, medium and buffer are then what they left; one byte more of the state is there to be lent too. */
-static struct lent {
-    uint8_t file[FILE_SIZE], medium[PHYS * DISK], state[ASCHEKNOPF_STATE_SIZE + 1], buffer[MOST];
-    size_t file_len, medium_len, state_len, buffer_len;
-} lent, before;
-
-static uint32_t opened(const char *text)
-{
-    before = lent;
-    return ascheknopf_open((const uint8_t *)text, strlen(text), lent.file, lent.file_len, lent.medium, lent.medium_len,
-                           lent.state, lent.state_len);
-}
+enum { ROWS = 3, HEADER = 28, CODE = 20 };
 
 static uint32_t handled(void)
 {
     before = lent;
     return ascheknopf_request(lent.state, lent.state_len, lent.medium, lent.medium_len, lent.buffer, lent.buffer_len);
-}
-
-static int untouched(void)
-{
-    return memcmp(&lent, &before, sizeof lent) == 0;
-}
-
-static int state_stays(void)
-{
-    return memcmp(lent.state, before.state, sizeof lent.state) == 0;
-}
-
-static int medium_stays(void)
-{
-    return memcmp(lent.medium, before.medium, sizeof lent.medium) == 0;
-}
-
-/* The sample's adapter and a medium of zeros; a state of other bytes. */
-static void start(void)
-{
-    memset(&lent, 0, sizeof lent);
-    lent.file_len = read_file("good", "adapter.bin", lent.file, sizeof lent.file);
-    lent.medium_len = sizeof lent.medium;
-    lent.state_len = ASCHEKNOPF_STATE_SIZE;
-    memset(lent.state, 0x5A, sizeof lent.state);
 }
 
 /* A sound request; its body is zeros, to be filled in. */
@@ -84,13 +42,6 @@ static int answered(uint32_t code)
     return handled() == 0 && word(lent.buffer + CODE) == code;
 }
 
-/* The state but for these bytes, which are expected to change, is as it was. */
-static int state_but(size_t at, size_t length)
-{
-    return memcmp(lent.state, before.state, at) == 0
-        && memcmp(lent.state + at + length, before.state + at + length, sizeof lent.state - at - length) == 0;
-}
-
 /* Every byte of the state, by the file: block 0, a block for each phy, and the rows. */
 static int state_is_the_files(uint8_t level)
 {
@@ -113,7 +64,7 @@ static void openings(void)
 {
     const char *texts[4] = {"CSMI=None;", "CSMI=Restricted;", "", FULL};
     for (uint8_t level = 0; level < 4; level++) {
-        start();
+        start("good");
         check("an opening", opened(texts[level]) == 0 && state_is_the_files(level));
         check("an opening leaves the rest", medium_stays() && lent.state[ASCHEKNOPF_STATE_SIZE] == 0x5A);
     }
@@ -139,7 +90,7 @@ static void refused(const char *what, const char *text, uint32_t number)
 
 static void refused_openings(void)
 {
-    start();
+    start("good");
     refused("a wrong text", "CSMI=full;", 101);
     lent.medium_len--;
     refused("a short medium", FULL, 106);
@@ -155,7 +106,7 @@ static void granted(void)
 {
     const uint8_t address[16] = {0x50, 0x00, 0xC5, 0, 0, 0, 0, 2}, set[5] = {0, 0, 0, 8, 2};
     uint8_t *body;
-    start();
+    start("good");
     check("the opening", opened(FULL) == 0);
 
     body = request(1, 174);
@@ -206,7 +157,7 @@ static void denied(uint8_t level)
 /* The level is a byte of the state: a caller's own copy at a lower level denies what the other grants. */
 static void levels(void)
 {
-    start();
+    start("good");
     check("the opening", opened(FULL) == 0);
     for (uint8_t level = 0; level < 3; level++) {
         request(21, 8)[4] = 1;
@@ -228,7 +179,7 @@ static void number_is(const char *what, uint32_t number)
 
 static void refusals(void)
 {
-    start();
+    start("good");
     check("the opening", opened(FULL) == 0);
     const struct lent sound = lent;
     const size_t places[5] = {ASCHEKNOPF_LEVEL, ASCHEKNOPF_PHY(1) + 20, ASCHEKNOPF_PHY(2) + ASCHEKNOPF_PHY_FIXED,
@@ -257,7 +208,7 @@ static void refusals(void)
 static void state_lengths(void)
 {
     const size_t lengths[6] = {0, 1, 3, 4096, ASCHEKNOPF_STATE_SIZE - 1, ASCHEKNOPF_STATE_SIZE + 1};
-    start();
+    start("good");
     check("the opening", opened(FULL) == 0);
     const struct lent sound = lent;
     for (int i = 0; i < 6; i++) {
@@ -280,7 +231,7 @@ static void null_pointers(void)
     const uint8_t *full = (const uint8_t *)FULL;
     uint8_t *file = lent.file, *medium = lent.medium, *state = lent.state, *buffer = lent.buffer;
     const size_t size = ASCHEKNOPF_STATE_SIZE;
-    start();
+    start("good");
     check("null: text", ascheknopf_open(NULL, 0, file, lent.file_len, medium, lent.medium_len, state, size) == 0
                         && state_is_the_files(2));
     check("null: file", ascheknopf_open(full, 10, NULL, 0, medium, lent.medium_len, state, size) == 102 && all(state, size, 0));

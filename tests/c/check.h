@@ -16,6 +16,14 @@ static inline void check(const char *what, int holds)
         printf("FAIL " PROGRAM ": %s\n", what), failed++;
 }
 
+/* The same of one vector of many. */
+static inline void check_at(const char *what, uint32_t vector, int holds)
+{
+    char name[96];
+    snprintf(name, sizeof name, "%s, %lX", what, (unsigned long)vector);
+    check(name, holds);
+}
+
 /* The last line, and the program's status. */
 static inline int finish(void)
 {
@@ -26,6 +34,12 @@ static inline int finish(void)
 static inline uint32_t word(const uint8_t *at)
 {
     return at[0] | (uint32_t)at[1] << 8 | (uint32_t)at[2] << 16 | (uint32_t)at[3] << 24;
+}
+
+static inline void put_word(uint8_t *at, uint32_t number)
+{
+    for (int i = 0; i < 4; i++)
+        at[i] = number >> 8 * i & 0xFF;
 }
 
 static inline int all(const uint8_t *at, size_t length, uint8_t value)

@@ -1,31 +1,9 @@
 /* The samples and damaged input through ascheknopf_run. What is expected was written down from document 01 and the samples'
    descriptions, the return codes by section 10 of 001. Runs in the repository's root. */
-#include "ascheknopf.h"
-
 #define PROGRAM "session.c"
-#include "check.h"
+#include "run.h"
 
-enum { PHYS = 4, FILE_SIZE = 6 * 512, DISK = 8192, SECTOR = 512, HEADER = 28, LINE = 8, LONG = 100000 };
-
-static const char RESTRICTED[] = "CSMI=Restricted;", FULL[] = "CSMI=Full;";
-static const uint32_t NONE = ASCHEKNOPF_NO_CODE;
-
-/* What a run gets. Medium, session and record are then what it left. */
-static struct run {
-    uint8_t file[FILE_SIZE], medium[PHYS * DISK], session[4 + LONG], record[20 * LINE];
-    size_t file_len, medium_len, session_len, record_len;
-} run, before;
-
-/* A sample, a medium of zeros and a record of 5Ah. */
-static void start(const char *sample)
-{
-    memset(&run, 0, sizeof run);
-    memset(run.record, 0x5A, sizeof run.record);
-    run.file_len = read_file(sample, "adapter.bin", run.file, sizeof run.file);
-    run.session_len = read_file(sample, "session", run.session, sizeof run.session);
-    run.medium_len = sizeof run.medium;
-    run.record_len = sizeof run.record;
-}
+enum { HEADER = 28 };
 
 /* The number that an opening by call has, which the run's opening is to have too. */
 static uint32_t opened(const char *text)
@@ -42,12 +20,6 @@ static size_t handled(const char *text)
                           run.session, run.session_len, run.record, run.record_len);
 }
 
-/* Line n of the record, from 1. */
-static int line_is(size_t n, uint32_t call, uint32_t code)
-{
-    return word(run.record + (n - 1) * LINE) == call && word(run.record + (n - 1) * LINE + 4) == code;
-}
-
 /* Where request n stands in the session, from 1; its length comes first. */
 static size_t place(size_t n)
 {
@@ -57,11 +29,6 @@ static size_t place(size_t n)
 static const uint8_t *body(size_t n)
 {
     return run.session + place(n) + 4 + HEADER;
-}
-
-static int session_stays(size_t from)
-{
-    return memcmp(run.session + from, before.session + from, sizeof run.session - from) == 0;
 }
 
 /* Status of code 25: OPEN_ACCEPT, the status FIS, uSCR and uDataBytes. */

@@ -1,0 +1,195 @@
+/* console ADAPTER: a console of a few requests, each sent under the first header of CSMI with ascheknopf_request and then under the Linux
+   header with ascheknopf_request_linux; prints the replies in words. The adapter is opened at Restricted, which binds the first header
+   alone. console.py does the same in Python. */
+#include "ascheknopf.h"
+
+#include <stdio.h>
+#include <string.h>
+
+/* The first header's size, and where its return code is; of the Linux header include/ascheknopf.h says it. */
+enum { FIRST = 28, FIRST_CODE = 20, LINUX = ASCHEKNOPF_LINUX_SIZE };
+enum { DATA_READ = 0, DATA_WRITE = 1 };
+enum { SECTOR = 512, DISK = 8192, LARGEST = 2052 };
+
+/* Everything that the simulator works on is ours. */
+static uint8_t file[36 * 512], medium[32 * DISK], state[ASCHEKNOPF_STATE_SIZE], buffer[FIRST + LARGEST];
+static size_t file_len, medium_len;
+
+static uint32_t word(const uint8_t *at)
+{
+    return at[0] | (uint32_t)at[1] << 8 | (uint32_t)at[2] << 16 | (uint32_t)at[3] << 24;
+}
+
+static void put_word(uint8_t *at, uint32_t number)
+{
+    for (int i = 0; i < 4; i++)
+        at[i] = number >> 8 * i & 0xFF;
+}
+
+static const char *number_in_words(uint32_t number)
+{
+    switch (number) {
+    case 0: return "accepted";
+    case 100: return "a buffer shorter than its header";
+    case 106: return "a wrong medium length";
+    case 107: return "no sound state";
+    default: return "see ascheknopf_open";
+    }
+}
+
+static const char *code_in_words(uint32_t code)
+{
+    switch (code) {
+    case 0: return "success";
+    case 2: return "bad control code";
+    case 3: return "invalid parameter";
+    case 4: return "denied at this level";
+    default: return "see section 10 of CSMI";
+    }
+}
+
+static const char *rate_in_words(uint8_t rate)
+{
+    switch (rate) {
+    case 1: return "disabled";
+    case 2: return "failed";
+    case 8: return "1.5 Gb/s";
+    case 9: return "3.0 Gb/s";
+    default: return "no link";
+    }
+}
+
+/* A request without its header: the control code by document 01, the Direction of the Linux header, and the body. */
+struct request {
+    const char *what;
+    uint32_t control;
+    uint8_t direction;
+    size_t size;
+    uint8_t body[LARGEST];
+};
+
+/* The body of a granted reply, or NULL: what the header's call left in the buffer. */
+static const uint8_t *reply_body(const char *header, uint32_t number, size_t code_at, size_t body_at)
+{
+    if (number != 0) {
+        printf("    %s: refused with %u, %s\n", header, (unsigned)number, number_in_words(number));
+        return NULL;
+    }
+    uint32_t code = word(buffer + code_at);
+    printf("    %s: %u, %s\n", header, (unsigned)code, code_in_words(code));
+    return code == 0 ? buffer + body_at : NULL;
+}
+
+/* HeaderLength, the signature, the control code, and a Length that does not count the header. */
+static const uint8_t *send_first(const struct request *r)
+{
+    memset(buffer, 0, FIRST);
+    put_word(buffer, FIRST);
+    memcpy(buffer + 4, r->control == 1 ? "CSMIALL" : "CSMISAS", 8);
+    put_word(buffer + 16, r->control);
+    put_word(buffer + 24, (uint32_t)r->size);
+    memcpy(buffer + FIRST, r->body, r->size);
+    uint32_t number = ascheknopf_request(state, sizeof state, medium, medium_len, buffer, FIRST + r->size);
+    return reply_body("first header", number, FIRST_CODE, FIRST);
+}
+
+/* A Length that counts the header, and the Direction; the control code goes beside the buffer. No signature, and no level is asked for. */
+static const uint8_t *send_linux(const struct request *r)
+{
+    memset(buffer, 0, LINUX);
+    put_word(buffer + ASCHEKNOPF_LINUX_LENGTH, LINUX + (uint32_t)r->size);
+    buffer[ASCHEKNOPF_LINUX_DIRECTION] = r->direction;
+    memcpy(buffer + LINUX, r->body, r->size);
+    uint32_t number = ascheknopf_request_linux(state, sizeof state, medium, medium_len, r->control, buffer, LINUX + r->size);
+    return reply_body("Linux header", number, ASCHEKNOPF_LINUX_RETURN_CODE, LINUX);
+}
+
+/* Sends a request under both headers; what came of it is shown after each. */
+static void send_both(const struct request *r, void (*show)(const uint8_t *reply))
+{
+    printf("%s\n", r->what);
+    show(send_first(r));
+    show(send_linux(r));
+}
+
+static void print_device(const uint8_t *attached)
+{
+    printf(", %s ", attached[0] != 0x10 ? "expander" : attached[3] & 1 ? "SATA disk" : "SAS device");
+    for (int i = 12; i < 20; i++)
+        printf("%02X", attached[i]);
+}
+
+static void show_phys(const uint8_t *reply)
+{
+    for (unsigned n = 0; reply && n < reply[0]; n++) {
+        const uint8_t *entity = reply + 4 + 64 * n;
+        printf("        phy %u, port %u: %s", n, entity[28], rate_in_words(entity[29]));
+        if (entity[36] != 0)
+            print_device(entity + 36);
+        printf("\n");
+    }
+}
+
+/* State and medium are ours to look at: what the adapter now holds of phy 0, and what is on its disk. */
+static void show_link(const uint8_t *reply)
+{
+    (void)reply;
+    printf("        its link: %s\n", rate_in_words(state[ASCHEKNOPF_PHY(0) + ASCHEKNOPF_PHY_ENTITY + 29]));
+}
+
+static void show_disk(const uint8_t *reply)
+{
+    (void)reply;
+    printf("        on the disk: %.16s\n", (const char *)medium + 3 * SECTOR);
+}
+
+static void show_data(const uint8_t *reply)
+{
+    if (reply)
+        printf("        status %02Xh, %u bytes, which begin: %.16s\n", reply[50], (unsigned)word(reply + 132), (const char *)reply + 136);
+}
+
+/* An ATA command for sector 3 of phy 0's disk; the data goes in and comes out behind the 136 bytes of its structure. */
+static struct request sector(const char *what, uint8_t direction, uint8_t command, const char *data)
+{
+    struct request r = {what, 25, direction, 136 + SECTOR, {0}};
+    r.body[1] = 0xFF; /* whatever the port */
+    memcpy(r.body + 4, state + ASCHEKNOPF_PHY(0) + ASCHEKNOPF_PHY_ENTITY + 48, 8);
+    r.body[16] = 0x27, r.body[18] = command, r.body[20] = 3, r.body[23] = 0x40, r.body[28] = 1;
+    put_word(r.body + 40, SECTOR);
+    memcpy(r.body + 136, data, strlen(data));
+    return r;
+}
+
+static void console(const char *text)
+{
+    uint32_t number = ascheknopf_open((const uint8_t *)text, strlen(text), file, file_len, medium, medium_len, state, sizeof state);
+    printf("open with %s %u, %s\n", text, (unsigned)number, number_in_words(number));
+    const struct request phy_info = {"phy info", 20, DATA_READ, 2052, {0}};
+    const struct request set_phy_info = {"set phy info, phy 0 at 1.5 Gb/s", 21, DATA_WRITE, 8, {0, 0, 0, 8}};
+    const struct request write = sector("write sector 3", DATA_WRITE, 0x30, "written");
+    const struct request read = sector("read sector 3", DATA_READ, 0x20, "");
+    /* the number of an ioctl is not the control code that goes beside the buffer */
+    const struct request ioctl = {"phy info by Linux's own number, CC770014h", 0xCC770014, DATA_READ, 2052, {0}};
+    send_both(&phy_info, show_phys);
+    send_both(&set_phy_info, show_link);
+    send_both(&write, show_disk);
+    send_both(&read, show_data);
+    send_both(&ioctl, show_phys);
+    printf("the level is still %u\n", state[ASCHEKNOPF_LEVEL]);
+}
+
+int main(int count, char **arguments)
+{
+    FILE *opened = count == 2 ? fopen(arguments[1], "rb") : NULL;
+    if (opened == NULL) {
+        fprintf(stderr, "use: console ADAPTER\n");
+        return 2;
+    }
+    file_len = fread(file, 1, sizeof file, opened);
+    fclose(opened);
+    medium_len = file_len > 0 && file[0] <= 32 ? (size_t)file[0] * DISK : 0;
+    memcpy(medium + 3 * SECTOR, "from the factory", 16);
+    console("CSMI=Restricted;");
+    return 0;
+}

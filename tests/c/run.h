@@ -1,0 +1,40 @@
+/* What a run of a whole session gets, for the programs that test it. Medium, session and record are then what it left. */
+#ifndef RUN_H
+#define RUN_H
+
+#include "ascheknopf.h"
+#include "check.h"
+
+enum { PHYS = 4, FILE_SIZE = 6 * 512, DISK = 8192, SECTOR = 512, LINE = 8, LONG = 100000 };
+
+static const char RESTRICTED[] = "CSMI=Restricted;", FULL[] = "CSMI=Full;";
+static const uint32_t NONE = ASCHEKNOPF_NO_CODE;
+
+static struct run {
+    uint8_t file[FILE_SIZE], medium[PHYS * DISK], session[4 + LONG], record[20 * LINE];
+    size_t file_len, medium_len, session_len, record_len;
+} run, before;
+
+/* A sample, a medium of zeros and a record of 5Ah. */
+static inline void start(const char *sample)
+{
+    memset(&run, 0, sizeof run);
+    memset(run.record, 0x5A, sizeof run.record);
+    run.file_len = read_file(sample, "adapter.bin", run.file, sizeof run.file);
+    run.session_len = read_file(sample, "session", run.session, sizeof run.session);
+    run.medium_len = sizeof run.medium;
+    run.record_len = sizeof run.record;
+}
+
+/* Line n of the record, from 1. */
+static inline int line_is(size_t n, uint32_t call, uint32_t code)
+{
+    return word(run.record + (n - 1) * LINE) == call && word(run.record + (n - 1) * LINE + 4) == code;
+}
+
+static inline int session_stays(size_t from)
+{
+    return memcmp(run.session + from, before.session + from, sizeof run.session - from) == 0;
+}
+
+#endif
