@@ -4,7 +4,7 @@ use super::*;
 use crate::run::Run;
 use differential::names::{body_size, code, header, stp};
 use differential::random::Random;
-use differential::request::buffer as sound_first;
+use differential::request::first::of_body;
 use differential::wire::{put_word, word};
 use library::{frame, record};
 use model::layout::linux_header as linux;
@@ -72,7 +72,7 @@ pub fn passes(control: u32, buffer: &[u8]) -> bool {
 /// Whether a Linux request passes its checks and a sound one with the same code and body under the first header is denied.
 pub fn is_above(state: &State, medium: &[u8], control: u32, buffer: &[u8]) -> bool {
     passes(control, buffer)
-        && model::denied(state, medium, &sound_first(control, &buffer[linux::SIZE..]))
+        && model::denied(state, medium, &of_body(control, &buffer[linux::SIZE..]).buffer)
 }
 
 /// Whatever the level, in a session of both headers the library's run gives the replies and the numbers that its calls give.
