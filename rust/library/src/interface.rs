@@ -57,3 +57,17 @@ extern "C" {
         record_len: usize,
     ) -> usize;
 }
+
+/// Either run.
+pub type Run = unsafe extern "C" fn(
+    *const u8,
+    usize,
+    *const u8,
+    usize,
+    *mut u8,
+    usize,
+    *mut u8,
+    usize,
+    *mut u8,
+    usize,
+) -> usize;

@@ -89,21 +89,14 @@ pub fn run(
     session: &mut [u8],
     record: &mut [u8],
 ) -> usize {
-    // As above; medium, session and record are written.
-    unsafe {
-        interface::ascheknopf_run(
-            text.as_ptr(),
-            text.len(),
-            file.as_ptr(),
-            file.len(),
-            medium.as_mut_ptr(),
-            medium.len(),
-            session.as_mut_ptr(),
-            session.len(),
-            record.as_mut_ptr(),
-            record.len(),
-        )
-    }
+    run_by(
+        interface::ascheknopf_run,
+        text,
+        file,
+        medium,
+        session,
+        record,
+    )
 }
 
 /// The same for a session whose requests have either header, each with a `frame` before it. A frame of another header, or of the first
@@ -115,9 +108,28 @@ pub fn run_both(
     session: &mut [u8],
     record: &mut [u8],
 ) -> usize {
-    // As above.
+    run_by(
+        interface::ascheknopf_run_both,
+        text,
+        file,
+        medium,
+        session,
+        record,
+    )
+}
+
+/// A run by one of the two functions.
+fn run_by(
+    run: interface::Run,
+    text: &[u8],
+    file: &[u8],
+    medium: &mut [u8],
+    session: &mut [u8],
+    record: &mut [u8],
+) -> usize {
+    // As above; medium, session and record are written.
     unsafe {
-        interface::ascheknopf_run_both(
+        run(
             text.as_ptr(),
             text.len(),
             file.as_ptr(),
