@@ -5,14 +5,15 @@ ghost use Prim.Native.Nat.{_≤_};
 ghost use lib.ListN.{length};
 ghost use Rattle.exports.specs.Frames.{prefixSize, prefixOf, saysKind, kindOf, firstSize};
 
+// Which requests a session has, and so what stands before each.
 pub enum Framing {
-    // a length
+    // under the first header: a length
     FirstHeader,
-    // which header, a control code, a length
+    // under either: its header, its control code, its length
     BothHeaders,
 }
 
-// What stands before a request.
+// What stands before a request. Where that is a length alone, the header is the first and the control code 0.
 pub struct Prefix {
     pub header: u32,
     pub control: u32,
