@@ -85,6 +85,13 @@ uint32_t ascheknopf_request(uint8_t *state, size_t state_len,
 #define ASCHEKNOPF_LINUX_TIMEOUT 12    /* Timeout, 4 bytes; not read */
 #define ASCHEKNOPF_LINUX_DIRECTION 16  /* Direction, 2 bytes: 0 read, 1 write; any other is return code 3 */
 
+/* The control code of a Linux request is document 01's number, which is handed in beside the buffer. Section 10 has for ioctl:
+     1  get driver info      0xCC770001        25  STP passthrough      0xCC770019
+     20 get phy info         0xCC770014        26  get SATA signature   0xCC770020
+     21 set phy info         0xCC770015        27  get SCSI address     0xCC770021
+     22 get link errors      0xCC770016        28  get device address   0xCC770022
+   These numbers themselves are unknown codes here (return code 2), and the last three do not end in document 01's. */
+
 /* Handles one request under the Linux header, as ascheknopf_request does one under the first. Its control code is handed in beside the
    buffer: document 01's number, such as 1 for get driver info, and not an ioctl number of Linux. A buffer under 20 bytes is 100. There is
    no signature, the level is taken for Full, and the return code is in bytes 8 to 11 of the reply. */

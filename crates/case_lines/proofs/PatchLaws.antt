@@ -71,7 +71,7 @@ unfolding put bytesOf
 put-done d d₀ h at j n l m p e =
     e ∙ ap (splice d₀ at) (ap (listTo (byteAt h)) (le-antisymm l m ∙ p) ∙ sym (take-fits (byteAt h) (length d₀ - at) (length h / 2)))
 
-pub ruleset put-loop = (put-none, put-more, put-done, needs)
+pub ruleset patch-loop = (put-none, put-more, put-done, needs)
 
 -- ---- a word, and a loop that puts words
 

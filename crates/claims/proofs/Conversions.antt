@@ -25,7 +25,7 @@ use Rattle.state.specs.Open.{openedOf}
 use Rattle.state.proofs.AcceptedLaws.{Open, open-accepted, open-holds}
 use Rattle.header.specs.Table.{structureSize}
 use Rattle.service.specs.Serve.{Store, reported, changed, reportOf, served}
-use Rattle.header.proofs.Laws.{checks-room}
+use Rattle.header.proofs.SentLaws.{checks-room}
 use Rattle.dispatch.proofs.Laws.{number-state}
 use Rattle.header.specs.Sent.{Request, formOf, controlOf, bodyOf}
 use Rattle.dispatch.specs.Request.{Point, Outcome, bufferNumber, pointNumber, inBuffer, answered, replied, answeredAt, handled}

@@ -9,7 +9,7 @@ use native.Mathlib.Decide.{ℕ-discrete}
 use lib.Dec.{eqb, ltb, leb}
 use lib.ListN.{length}
 use borrow.Author.Tests.{eq-eqb, ne-eqb, eqb-true, eqb-false, ltb-true, ltb-false}
-use Rattle.laws.specs.Choice.{by-bool, either, either-by}
+use Rattle.laws.specs.Choice.{by-bool, either, either-by, and-true, and-false}
 use Rattle.laws.specs.Splice.{part, splice, length-part, length-splice, part-splice, part-below, part-above}
 use Rattle.codes.specs.Codes.{success, invalidParameter, connectionFailed, stpPassthru}
 use Rattle.phy.specs.declared.PhyIdentifier.{PhyIdentifier}
@@ -81,14 +81,6 @@ module _ (medium d : List ℕ) (n : ℕ) (h : 8192 * n + 8192 ≤ length medium)
       (ltb m n) refl
 
 -- ---- a command that a disk serves
-
-and-true : (a : Bool) → a && true ≡ a
-and-true true = refl
-and-true false = refl
-
-and-false : (a : Bool) → a && false ≡ false
-and-false true = refl
-and-false false = refl
 
 module _ (ad : Adapter) (store : Store) (body : List ℕ) (h : length (store .medium) ≡ mediumSize ad) (r : 136 + dataLength body ≤ length body)
     (c : selectsIn ad body .code ≡ success)

@@ -9,5 +9,5 @@ pub mod Reached
 pub mod Demand3
 pub mod Conversions
 pub mod Sameness
-pub mod Heard
+pub mod PastBoth
 pub mod Starred

@@ -16,7 +16,8 @@ use Rattle.state.specs.State.{stateWith, adapterHolds, stateHolds}
 use Rattle.header.specs.declared.Kind.the-variants.{Srb, Linux}
 use Rattle.header.specs.Form.{Form, behindHeader, returnCode}
 use Rattle.header.specs.Sent.{Request, sent, levelBy, formOf, controlOf, bodyOf}
-use Rattle.header.proofs.Laws.{form-room, code-there, headed, body-shown, full-checks}
+use Rattle.header.proofs.SentLaws.{form-room, full-checks}
+use Rattle.header.proofs.FormLaws.{code-there, header-kept, body-shown}
 use Rattle.service.specs.Serve.{Store, Served, served}
 use Rattle.dispatch.specs.Request.{Outcome, bufferNumber, pointNumber, inBuffer, answered, replied, answeredAt, handled}
 use Rattle.dispatch.proofs.Laws.{number-state}
@@ -48,7 +49,7 @@ module _ (level : Level) (ad : Adapter) (store : Store) (r : Request) (z : point
         rw past-served
         (record {
           call = refl;
-          code = code-there (formOf r) (form-room r) (take (formOf r .size) (r .buffer) ++ x .body) (x .code) (headed (formOf r) (form-room r) (r .buffer) (x .body) (h .long));
+          code = code-there (formOf r) (form-room r) (take (formOf r .size) (r .buffer) ++ x .body) (x .code) (header-kept (formOf r) (form-room r) (r .buffer) (x .body) (h .long));
           body = body-shown (formOf r) (form-room r) (r .buffer) (x .body) (h .long) (x .code);
           store = refl;
           adapter = refl;

@@ -6,7 +6,7 @@ use Prim.Native.Nat.{ℕ, _≤_}
 use native.Mathlib.Omega.{arith}
 use lib.Dec.{eqb}
 use borrow.Author.Tests.{le-leb}
-use Rattle.laws.specs.Choice.{by-bool, both-left, both-right, either}
+use Rattle.laws.specs.Choice.{and-false, both-left, both-right, either}
 use Rattle.level.specs.declared.Level.{Level}
 use Rattle.adapter.specs.Adapter.{Adapter}
 use Rattle.state.specs.State.{stateWith, stateHolds}
@@ -14,7 +14,7 @@ use Rattle.service.specs.Serve.{Store}
 use Rattle.header.specs.declared.Kind.the-variants.{Linux}
 use Rattle.header.specs.Sent.{Request, refusedByLevel}
 use Rattle.dispatch.specs.Request.{Point, point, Outcome, outcome, stateNumber, callNumber, answered, answeredAt, handled}
-use Rattle.header.proofs.Laws.{never-refused, checks-refused, checks-higher}
+use Rattle.header.proofs.SentLaws.{never-refused, checks-refused, checks-higher}
 use Rattle.claims.specs.Run.{denied, denial}
 
 -- ---- denied
@@ -30,7 +30,7 @@ denied-step p r h =
 pub linux-given : (p : Point) (r : Request) (control : ℕ) → r .kind ≡ Linux control → denied p r ≡ false
 unfolding denied
 linux-given p r control e =
-    rw (never-refused (p .state .level) r (rw e refl)) (by-bool (λ (b : Bool). b && false ≡ false) refl refl (eqb (callNumber p r) 0))
+    rw (never-refused (p .state .level) r (rw e refl)) (and-false (eqb (callNumber p r) 0))
 
 -- ---- the level stays
 

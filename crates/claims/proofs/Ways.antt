@@ -16,7 +16,8 @@ use Rattle.link_errors.specs.LinkErrors.{linkErrors}
 use Rattle.passthrough.specs.Passthrough.{passthrough}
 use Rattle.state.specs.State.{State, adapterHolds, stateHolds}
 use Rattle.header.specs.Table.{structureSize, dataSize}
-use Rattle.header.proofs.Laws.{code-shown, headed, body-shown, form-room, checks-small, checks-room}
+use Rattle.header.proofs.FormLaws.{code-shown, header-kept, body-shown}
+use Rattle.header.proofs.SentLaws.{form-room, checks-small, checks-room}
 use Rattle.service.specs.Serve.{Store, Served, reported, changed, passed, reportOf, served}
 use Rattle.dispatch.proofs.Laws.{number-state, number-medium, heard-number, heard-buffer}
 use Rattle.header.specs.Sent.{Request, formOf, controlOf, bodyOf, checksCode}
@@ -100,7 +101,7 @@ module _ (p : Point) (r : Request) where
   unfolding toldBy granted
   told-served x k h =
       rw (
-        code-shown (formOf r) (form-room r) (take (formOf r .size) (r .buffer) ++ x .body) (x .code) (headed (formOf r) (form-room r) (r .buffer) (x .body) h) (omega arith),
+        code-shown (formOf r) (form-room r) (take (formOf r .size) (r .buffer) ++ x .body) (x .code) (header-kept (formOf r) (form-room r) (r .buffer) (x .body) h) (omega arith),
         body-shown (formOf r) (form-room r) (r .buffer) (x .body) h (x .code),
       )
       refl

@@ -1,4 +1,4 @@
--- The conversions through `request` undo each other on accepted rows (document 01, codes 27 and 28), wherever a run from an accepted opening
+-- The conversions, under either header, undo each other on accepted rows (document 01, codes 27 and 28), wherever a run from an accepted opening
 -- stands: the reply to a 27, fed to a 28, gives the SAS address and LUN back, and the other way. In the body of a 27 the SAS address and LUN are
 -- bytes 0–15 and the OS bytes 16–19; in that of a 28 the OS bytes are 0–3 and the others 4–19. Assumes nothing.
 use mathlib.Core.Path.{_≡_}

@@ -64,13 +64,13 @@ abbrev pub linuxHeader : ℕ → List ℕ
 linuxHeader n = zeros 4 ++ (bytes 4 (linux .size + n) ++ zeros 12)
 
 -- a request of each kind with this code and body, both past their header's checks
-pub record Heard (control : ℕ) (body : List ℕ) : Type 0 where
+pub record TwinsPast (control : ℕ) (body : List ℕ) : Type 0 where
   pub srb : PastHeader (sent Srb (srbHeader control (length body) ++ body))
   pub linux : PastHeader (sent (Linux control) (linuxHeader (length body) ++ body))
   pub twins : Twins (sent (Linux control) (linuxHeader (length body) ++ body)) (sent Srb (srbHeader control (length body) ++ body))
 
 -- of every code that is served and every body that has its structure and its data, as long as a Length can say it
-abbrev pub HeardUnderBoth : Type 0
-HeardUnderBoth =
+abbrev pub PastBoth : Type 0
+PastBoth =
     (control : ℕ) (body : List ℕ) → known control ≡ true → control < 4294967296 → structureSize control + dataSize control body ≤ length body
-    → linux .size + length body < 4294967296 → Heard control body
+    → linux .size + length body < 4294967296 → TwinsPast control body

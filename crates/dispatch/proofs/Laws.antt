@@ -19,7 +19,8 @@ use Rattle.header.specs.declared.Kind.{Kind}
 use Rattle.header.specs.Form.{Form, returnCode, withCode}
 use Rattle.header.specs.Table.{structureSize, dataSize}
 use Rattle.header.specs.Sent.{sent, formBy, controlBy, HasStructure, checksCode}
-use Rattle.header.proofs.Laws.{code-shown, form-room, checks-room}
+use Rattle.header.proofs.FormLaws.{code-shown}
+use Rattle.header.proofs.SentLaws.{form-room, checks-room}
 use Rattle.state.specs.State.{State, stateWith, stateSize, stateOf, stateHolds}
 use Rattle.state.proofs.Laws.{lent-tables, state-back, state-phys, state-rows}
 use Rattle.adapter.specs.Adapter.{Adapter, mediumSize}

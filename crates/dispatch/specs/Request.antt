@@ -91,7 +91,7 @@ replied f level a = outcome 0 (point (stateWith level (a .adapter)) (a .store)) 
 unfoldable pub answeredAt : Point → Request → Outcome
 answeredAt p r = replied (formOf r) (p .state .level) (answered (p .state .adapter) (p .store) r (checksCode (p .state .level) r))
 
--- "Checks, in order: state; medium length; buffer of 28 bytes; HeaderLength 28; .."
+-- "Checks, in order: state; medium length; .."
 unfoldable pub handled : Point → Request → Outcome
 handled p r = cond (eqb (callNumber p r) 0) (answeredAt p r) (untouched (callNumber p r) p r)
 

@@ -9,6 +9,5 @@ pub use handle::reply;
 pub use handle::request;
 pub use handle::request_linux;
 pub use handle::state_number;
-pub use header::Kind;
 pub use state::SIZE;
 pub use state::open;

@@ -1,2 +1,5 @@
 -- The laws that the proofs of this crate and of the crates above cite.
-pub mod Laws
+pub mod FormLaws
+pub mod TableLaws
+pub mod LengthLaws
+pub mod SentLaws

@@ -1,5 +1,6 @@
 -- The Linux header and its checks (W-201): "the Linux header of 4.2.3.1, 18 bytes and two bytes that are ignored, with the control code, in
--- document 01's numbers, handed in beside the buffer". IOControllerNumber, Timeout and the two bytes are not read. Assumes nothing.
+-- document 01's numbers, handed in beside the buffer". IOControllerNumber, Timeout and the two bytes are not read.
+-- Assumes nothing.
 use mathlib.Core.Bool.{Bool, cond, _&&_, _||_}
 use mathlib.Core.List.{List}
 use Prim.Native.Nat.{ℕ, _+_}

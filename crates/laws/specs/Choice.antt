@@ -39,6 +39,15 @@ and-then t b r e p = rw e p
 pub and-not : (t b : Bool) → t ≡ false → false ≡ t && b
 and-not t b e = rw e refl
 
+-- a test and then one that came out
+pub and-true : (a : Bool) → a && true ≡ a
+and-true true = refl
+and-true false = refl
+
+pub and-false : (a : Bool) → a && false ≡ false
+and-false true = refl
+and-false false = refl
+
 -- two tests that both hold
 pub both : (a b : Bool) → a ≡ true → b ≡ true → a && b ≡ true
 both a b p q = rw p q

@@ -9,5 +9,5 @@ use borrow.Author.Needs.{length-unmapped}
 -- ---- for the proofs
 
 -- an array that is a struct's field fits into a body with room for it
-pub fits : (l body : List ℕ) (at n N : ℕ) → length (map (λ (v : ℕ). v) l) ≡ n → N ≤ length body → at + n ≤ N → at + length l ≤ length body
-fits l body at n N e h k = rw (length-unmapped ℕ l n e) (le-trans k h)
+pub field-fits : (l body : List ℕ) (at n N : ℕ) → length (map (λ (v : ℕ). v) l) ≡ n → N ≤ length body → at + n ≤ N → at + length l ≤ length body
+field-fits l body at n N e h k = rw (length-unmapped ℕ l n e) (le-trans k h)

@@ -6,7 +6,7 @@ use differential::case::Case;
 use differential::names::{ata, code, device, phy, ENTITY, SECTORS};
 use differential::random::Random;
 use differential::request::passthrough::Passthrough;
-use differential::request::{first, fis, Request};
+use differential::request::{first, fis, linux, Request};
 
 #[derive(Clone, Copy, PartialEq, Eq)]
 pub enum Kind {
@@ -15,9 +15,11 @@ pub enum Kind {
     Code(u32),
     Command(u8),
     Mixed,
+    /// The same under the Linux header.
+    MixedLinux,
 }
 
-pub const SESSIONS: [(&str, Kind); 12] = [
+pub const SESSIONS: [(&str, Kind); 13] = [
     ("opening", Kind::Opening),
     ("driver-info", Kind::Code(code::DRIVER_INFO)),
     ("phy-info", Kind::Code(code::PHY_INFO)),
@@ -30,7 +32,11 @@ pub const SESSIONS: [(&str, Kind); 12] = [
     ("scsi-address", Kind::Code(code::SCSI_ADDRESS)),
     ("device-address", Kind::Code(code::DEVICE_ADDRESS)),
     ("mixed", Kind::Mixed),
+    ("mixed-linux", Kind::MixedLinux),
 ];
+
+/// Those of one code or command, of which a mixed session is made.
+const SINGLE: std::ops::RangeInclusive<usize> = 1..=10;
 
 /// The counts p and a that are measured.
 pub const SIZES: [(usize, usize); 4] = [(7, 0), (7, 64), (32, 0), (32, 64)];
@@ -82,8 +88,12 @@ fn granted(random: &mut Random, adapter: &Adapter, kind: Kind) -> Request {
         Kind::Code(control) => first::sound(random, adapter, control),
         Kind::Command(command) => passthrough(random, adapter, command),
         Kind::Mixed | Kind::Opening => {
-            let one = SESSIONS[random.within(1, SESSIONS.len() - 2)].1;
+            let one = SESSIONS[random.within(*SINGLE.start(), *SINGLE.end())].1;
             granted(random, adapter, one)
+        }
+        Kind::MixedLinux => {
+            let request = granted(random, adapter, Kind::Mixed);
+            linux::of_body(request.control(), request.body())
         }
     }
 }

@@ -5,7 +5,7 @@ use lib.ListN.{length}
 use Rattle.laws.specs.Splice.{splice}
 use Rattle.laws.specs.Fill.{listTo}
 use Rattle.case_lines.specs.Patch.{byteAt}
-use Rattle.case_lines.proofs.PatchLaws.{put-loop}
+use Rattle.case_lines.proofs.PatchLaws.{patch-loop}
 use Rattle.case_lines.proofs.line.put_bytes.Statement.{statement}
 use Rattle.case_lines.proofs.line.put_bytes.Tie as tie
 
@@ -18,6 +18,6 @@ abbrev μ-loop : tie.MeasureT-loop
 pub put-bytes-spec : {M : Type 1} → statement M
 put-bytes-spec =
     tie.close
-    (tie.spec Inv-loop μ-loop (λ c κs. search put-loop) (λ c. search put-loop) (λ c. search put-loop) (λ c. search put-loop)
-    (λ c. search put-loop) (λ c. search put-loop) (λ c. search put-loop) (λ c κs. search put-loop) (λ c. search put-loop)
-    (λ c. search put-loop) (λ c. search put-loop) (λ c. search put-loop) (λ c. search put-loop) (λ c. search put-loop) (λ c. search put-loop))
+    (tie.spec Inv-loop μ-loop (λ c κs. search patch-loop) (λ c. search patch-loop) (λ c. search patch-loop) (λ c. search patch-loop)
+    (λ c. search patch-loop) (λ c. search patch-loop) (λ c. search patch-loop) (λ c κs. search patch-loop) (λ c. search patch-loop)
+    (λ c. search patch-loop) (λ c. search patch-loop) (λ c. search patch-loop) (λ c. search patch-loop) (λ c. search patch-loop) (λ c. search patch-loop))

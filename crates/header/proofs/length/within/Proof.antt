@@ -1,6 +1,6 @@
 -- `header::length::within` meets its contract. Assumes nothing.
 use borrow.Author.Needs.{needs}
-use Rattle.header.proofs.Laws.{short-structure, short-body, inside-body, structure-inside}
+use Rattle.header.proofs.LengthLaws.{short-structure, short-body, inside-body, structure-inside}
 use Rattle.header.proofs.length.within.Statement.{statement}
 use Rattle.header.proofs.length.within.Tie as tie
 

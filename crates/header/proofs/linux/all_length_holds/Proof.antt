@@ -1,5 +1,5 @@
 -- `header::linux::all_length_holds` meets its contract. Assumes nothing.
-use Rattle.header.proofs.Laws.{short-header, linux-length-by}
+use Rattle.header.proofs.LengthLaws.{short-header, linux-length-by}
 use borrow.Author.Needs.{needs}
 use Rattle.header.proofs.linux.all_length_holds.Statement.{statement}
 use Rattle.header.proofs.linux.all_length_holds.Tie as tie

@@ -1,5 +1,5 @@
 -- `header::sent::access_code` meets its contract. Assumes nothing.
-use Rattle.header.proofs.Laws.{srb-size, linux-size, srb-access, linux-access}
+use Rattle.header.proofs.SentLaws.{srb-size, linux-size, srb-access, linux-access}
 use borrow.Author.Needs.{needs}
 use Rattle.header.proofs.sent.access_code.Statement.{statement}
 use Rattle.header.proofs.sent.access_code.Tie as tie

@@ -1,5 +1,5 @@
 -- `header::sent::control_code` meets its contract. Assumes nothing.
-use Rattle.header.proofs.Laws.{srb-size}
+use Rattle.header.proofs.SentLaws.{srb-size}
 use borrow.Author.Needs.{needs}
 use Rattle.header.proofs.sent.control_code.Statement.{statement}
 use Rattle.header.proofs.sent.control_code.Tie as tie

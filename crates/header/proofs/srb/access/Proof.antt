@@ -1,7 +1,7 @@
 -- `header::srb::access` meets its contract. Assumes nothing.
 use borrow.Author.Needs.{needs}
 use Rattle.header.specs.Sent.{checksCode}
-use Rattle.header.proofs.Laws.{structure-room}
+use Rattle.header.proofs.SentLaws.{structure-room}
 use Rattle.laws.specs.Choice.{picks}
 use Rattle.header.proofs.srb.access.Statement.{statement}
 use Rattle.header.proofs.srb.access.Tie as tie

@@ -1,6 +1,6 @@
 -- `header::srb::is_above` meets its contract. Assumes nothing.
 use borrow.Author.Needs.{needs}
-use Rattle.header.proofs.Laws.{room-by, above-by}
+use Rattle.header.proofs.SentLaws.{room-by, above-by}
 use Rattle.header.proofs.srb.is_above.Statement.{statement}
 use Rattle.header.proofs.srb.is_above.Tie as tie
 

@@ -1,10 +1,10 @@
 -- `reports::signature::put_signature` meets its contract. Assumes nothing.
 use borrow.Author.Needs.{needs}
-use Rattle.reports.proofs.ReportLaws.{fits}
+use Rattle.reports.proofs.ReportLaws.{field-fits}
 use Rattle.reports.proofs.signature.put_signature.Statement.{statement}
 use Rattle.reports.proofs.signature.put_signature.Tie as tie
 
 pub put-signature-spec : {M : Type 1} → statement M
 put-signature-spec =
     tie.close
-    (tie.spec (λ c. search needs) (λ c κs. search (fits, needs)) (λ c. search needs) (λ c. cc))
+    (tie.spec (λ c. search needs) (λ c κs. search (field-fits, needs)) (λ c. search needs) (λ c. cc))

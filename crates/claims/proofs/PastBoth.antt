@@ -18,7 +18,7 @@ use Rattle.header.specs.Form.{srb}
 use Rattle.header.specs.Table.{known, structureSize, dataSize, signedAll, csmiAll, csmiSas}
 use Rattle.header.specs.Srb.{headerLength, signature, controlCode, lengthField, srbBody, signatureHolds, lengthHolds, codeChecked, srbCode}
 use Rattle.header.specs.Linux.{linuxLength, direction, linuxBody, directionHolds, linuxLengthHolds, linuxCode}
-use Rattle.claims.specs.Sameness.{srbHeader, linuxHeader, Heard, HeardUnderBoth}
+use Rattle.claims.specs.Sameness.{srbHeader, linuxHeader, TwinsPast, PastBoth}
 
 module _ (control : ℕ) (body : List ℕ) (k : known control ≡ true) (c : control < 4294967296) (room : structureSize control + dataSize control body ≤ length body)
     (l : 20 + length body < 4294967296)
@@ -115,13 +115,13 @@ module _ (control : ℕ) (body : List ℕ) (k : known control ≡ true) (c : con
         let f : linuxLength linuxBuffer ≡ 20 + n = ap number (linux-part 4 4 (omega arith) ∙ linux-put) ∙ number-bytes 4 (20 + n) (omega arith) in
         rw (d, k, f, linux-body, linux-long, le-leb (20 + (structureSize control + dataSize control body)) (20 + n) (omega arith), le-leb (20 + n) (20 + n) (omega arith)) refl
 
-    heard : Heard control body
-    heard =
+    twins-past : TwinsPast control body
+    twins-past =
         record {
           srb = record { long = rw (length-append (headBy (signedAll control)) body, length-srb (signedAll control)) (omega arith); checked = srb-checked };
           linux = record { long = rw linux-long (omega arith); checked = linux-checked };
           twins = record { control = sym srb-control; body = linux-body ∙ sym srb-body };
         }
 
-pub heard-under-both : HeardUnderBoth
-heard-under-both control body k c room l = heard control body k c room l
+pub past-both : PastBoth
+past-both control body k c room l = twins-past control body k c room l

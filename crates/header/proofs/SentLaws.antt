@@ -1,60 +1,27 @@
--- What the proofs of this crate and the layers above cite. Assumes nothing.
-use mathlib.Core.Path.{_≡_, refl, sym, _∙_, ap}
+-- A request under either header: what its checks tell, and what the level does. Assumes nothing.
+use mathlib.Core.Path.{_≡_, refl, sym, _∙_}
 use mathlib.Core.Bool.{Bool, true, false, cond, _&&_}
-use mathlib.Core.List.{List, _++_}
-use Prim.Native.Nat.{ℕ, _+_, _-_, _<_, _≤_}
+use mathlib.Core.List.{List}
+use Prim.Native.Nat.{ℕ, _+_, _-_, _≤_}
 use native.Mathlib.Nat.{le-trans}
 use native.Mathlib.Omega.{arith}
 use lib.Dec.{eqb, leb, ltb}
-use lib.ListN.{length, take, drop, length-append, length-drop}
-use lib.Seq.{length-take-le, drop-at}
-use borrow.Author.Tests.{lt-leb, le-leb, leb-true, leb-false, le-ltb, ltb-false, eqb-true}
-use Rattle.laws.specs.Choice.{by-bool, both-left, both-right, came-then, either}
-use Rattle.laws.specs.Splice.{part-splice, drop-splice, rest}
-use Rattle.codes.specs.Codes.{getDriverInfo, getPhyInfo, setPhyInfo, getLinkErrors, stpPassthru, getSataSignature, getScsiAddress, getDeviceAddress, success, writeAttempted}
-use Rattle.wire.specs.Number.{number, bytes}
-use Rattle.wire.proofs.NumberLaws.{length-bytes, number-bytes}
+use lib.ListN.{length, take, drop, length-drop}
+use borrow.Author.Tests.{leb-true, le-ltb, ltb-false, eqb-true}
+use Rattle.laws.specs.Choice.{by-bool, both-left, both-right, came-then, either, and-false}
+use Rattle.laws.specs.Splice.{rest}
+use Rattle.codes.specs.Codes.{success, writeAttempted}
 use Rattle.level.specs.declared.Level.{Level}
 use Rattle.level.specs.Text.{full}
-use Rattle.level.proofs.BoundLaws.{need-bound}
-use Rattle.stp.specs.Body.{command}
 use Rattle.header.specs.declared.Kind.{Kind}
 use Rattle.header.specs.declared.Kind.the-variants.{Srb, Linux}
-use Rattle.header.specs.Form.{Form, srb, linux, behindHeader, returnCode, withCode}
+use Rattle.header.specs.Form.{srb, linux}
 use Rattle.header.specs.Table.{known, structureSize, dataSize, need}
 use Rattle.header.specs.Srb.{headerLength, controlCode, lengthField, srbBody, signatureHolds, lengthHolds, codeChecked, srbCode}
 use Rattle.header.specs.Linux.{linuxLength, linuxBody, directionHolds, linuxLengthHolds, linuxCode}
 use Rattle.header.specs.Sent.{Request, sent, formBy, codeBy, levelBy, formOf, controlOf, bodyOf, HasStructure, headerCode, above, refusedByLevel, checksCode}
-
--- ---- a header of any form, with the return code inside it
-
-module _ (f : Form) (h : f .place + 4 ≤ f .size) where
-  -- the four bytes that were written stand there
-  pub code-there : (buffer : List ℕ) (code : ℕ) → f .size ≤ length buffer → returnCode f (withCode f buffer code) ≡ number (bytes 4 code)
-  code-there buffer code l = ap number (rw (length-bytes 4 code) at (part-splice buffer (f .place) (bytes 4 code) (omega arith)))
-
-  -- and so the return code does
-  pub code-shown : (buffer : List ℕ) (code : ℕ) → f .size ≤ length buffer → code < 4294967296 → returnCode f (withCode f buffer code) ≡ code
-  code-shown buffer code l k = code-there buffer code l ∙ number-bytes 4 code (omega arith)
-
-  module _ (buffer body : List ℕ) (l : f .size ≤ length buffer) where
-    front : length (take (f .size) buffer) ≡ f .size
-    front = length-take-le (f .size) buffer l
-
-    -- a body put back behind its header
-    pub headed : f .size ≤ length (take (f .size) buffer ++ body)
-    headed = rw (length-append (take (f .size) buffer) body, front) (omega arith)
-
-    -- it stays where the return code is written
-    pub body-shown : (code : ℕ) → behindHeader f (withCode f (take (f .size) buffer ++ body) code) ≡ body
-    body-shown code =
-        drop-splice (take (f .size) buffer ++ body) (f .place) (bytes 4 code) (f .size) (omega (arith, headed)) (rw length-bytes h)
-        ∙ drop-at (take (f .size) buffer) body (f .size) front
-
--- a code 25 whose structure is there has its fixed part
-pub passthrough-room : (control k n : ℕ) → control ≡ stpPassthru → structureSize control ≤ n → k ≤ 136 → k ≤ n
-unfolding structureSize
-passthrough-room control k n e h l = le-trans l (rw e at h)
+use Rattle.header.proofs.TableLaws.{need-full}
+use Rattle.header.proofs.LengthLaws.{length-room}
 
 -- ---- the body, lent as the rest of the buffer
 
@@ -69,66 +36,6 @@ module _ (buffer : List ℕ) (code : ℕ) where
   pub above-by : (level n : Level) → code ≡ controlCode buffer → n ≡ need code (take (length buffer - 28) (drop 28 buffer)) → ltb (level .0) (n .0) ≡ above level (sent Srb buffer)
   unfolding above
   above-by level n e p = rw (p, rest, e)
-
--- ---- Length
-
-module _ (control n : ℕ) (body : List ℕ) where
-  -- too short for the structure, or longer than the body
-  pub short-structure : (size : ℕ) → n < size → size ≡ structureSize control → false ≡ lengthHolds control n body
-  unfolding lengthHolds
-  short-structure size h e = rw (lt-leb (structureSize control + dataSize control body) n (omega arith)) refl
-
-  pub short-body : length body < n → false ≡ lengthHolds control n body
-  unfolding lengthHolds
-  short-body h =
-      by-bool (λ (b : Bool). false ≡ b && leb n (length body)) (sym (lt-leb n (length body) h)) refl
-      (leb (structureSize control + dataSize control body) n)
-
-  -- inside the body, only the data's length is left to test
-  pub inside-body : (size : ℕ) (r : Bool) → n ≤ length body → size ≡ structureSize control → r ≡ leb (size + dataSize control body) n
-      → r ≡ lengthHolds control n body
-  unfolding lengthHolds
-  inside-body size r h e p =
-      p ∙ rw (e, le-leb n (length body) h) (by-bool (λ (b : Bool). b ≡ b && true) refl refl (leb (structureSize control + dataSize control body) n))
-
-  pub structure-inside : (size : ℕ) → size ≤ n → n ≤ length body → size ≡ structureSize control → structureSize control ≤ length body
-  structure-inside size h k e = omega arith
-
-  -- what a Length that passed tells
-  pub length-room : lengthHolds control n body ≡ true → structureSize control + dataSize control body ≤ length body
-  unfolding lengthHolds
-  length-room h =
-      le-trans (leb-true (structureSize control + dataSize control body) n (both-left (leb (structureSize control + dataSize control body) n) (leb n (length body)) h))
-      (leb-true n (length body) (both-right (leb (structureSize control + dataSize control body) n) (leb n (length body)) h))
-
--- ---- Length of the Linux header, which counts the header too
-
--- a number less than another by what both are raised by
-raised : (a b k : ℕ) → k ≤ b → leb (k + a) b ≡ leb a (b - k)
-raised a b k h =
-    by-bool (λ (t : Bool). leb a (b - k) ≡ t → leb (k + a) b ≡ t)
-    (λ e. let l : a ≤ b - k = leb-true a (b - k) e in le-leb (k + a) b (omega arith))
-    (λ e. let l : b - k < a = leb-false a (b - k) e in lt-leb (k + a) b (omega arith))
-    (leb a (b - k)) refl
-
-module _ (control n : ℕ) (buffer : List ℕ) (e : n ≡ linuxLength buffer) where
-  -- too short for the header
-  pub short-header : n < 20 → false ≡ linuxLengthHolds control buffer
-  unfolding linuxLengthHolds
-  short-header h =
-      rw (← e, lt-leb (20 + (structureSize control + dataSize control (linuxBody buffer))) n (omega arith)) refl
-
-  -- without the header, Length is held to the body, lent as the rest of the buffer
-  pub linux-length-by : (r : Bool) → 20 ≤ n → 20 ≤ length buffer → r ≡ lengthHolds control (n - 20) (take (length buffer - 20) (drop 20 buffer))
-      → r ≡ linuxLengthHolds control buffer
-  unfolding linuxLengthHolds lengthHolds
-  linux-length-by r h k p =
-      let d : length (linuxBody buffer) ≡ length buffer - 20 = length-drop 20 buffer in
-      let c : leb n (length buffer) ≡ leb (n - 20) (length buffer - 20) = rw (← raised (n - 20) (length buffer) 20 k, add-back) refl in
-      rw (← e, raised (structureSize control + dataSize control (linuxBody buffer)) n 20 h, c) (rw (rest, d) at p)
-    where
-      add-back : 20 + (n - 20) ≡ n
-      add-back = omega arith
 
 -- ---- a header that passed
 
@@ -176,25 +83,9 @@ form-room r = by-kind (r .kind)
     by-kind Srb = omega arith
     by-kind (Linux control) = omega arith
 
--- ---- need
+-- ---- held to Full
 
--- no need is above Full
-pub need-full : (control : ℕ) (body : List ℕ) → need control body .0 ≤ full .0
-unfolding need
-need-full control body =
-    either Within (eqb control getDriverInfo) (omega arith)
-    (either Within (eqb control getPhyInfo) (omega arith)
-    (either Within (eqb control setPhyInfo) (omega arith)
-    (either Within (eqb control getLinkErrors) (omega arith)
-    (either Within (eqb control stpPassthru) (need-bound (command body))
-    (either Within (eqb control getSataSignature) (omega arith)
-    (either Within (eqb control getScsiAddress) (omega arith)
-    (either Within (eqb control getDeviceAddress) (omega arith) (omega arith))))))))
-  where
-    Within : Level → Type 0
-    Within l = l .0 ≤ full .0
-
--- so a request that is held to Full is never denied, and its checks end before the level: one under the Linux header at every level, one
+-- no need is above Full, so a request that is held to Full is never denied, and its checks end before the level: one under the Linux header at every level, one
 -- under the first at Full
 module _ (level : Level) (r : Request) (h : levelBy (r .kind) level ≡ full) where
   full-above : above level r ≡ false
@@ -203,7 +94,7 @@ module _ (level : Level) (r : Request) (h : levelBy (r .kind) level ≡ full) wh
 
   pub never-refused : refusedByLevel level r ≡ false
   unfolding refusedByLevel
-  never-refused = rw full-above (by-bool (λ (t : Bool). t && false ≡ false) refl refl (eqb (headerCode r) success))
+  never-refused = rw full-above (and-false (eqb (headerCode r) success))
 
   pub full-checks : checksCode level r ≡ headerCode r
   unfolding checksCode
