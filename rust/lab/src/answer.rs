@@ -3,6 +3,9 @@
 use labkit::names;
 use labkit::session::{layout, Header, STP_PASSTHRU};
 
+/// The return codes of a header's checks: 2 for the code or the signature, 3 for a Length or a Direction. Later checks give 3 too.
+const OF_HEADERS: [u32; 2] = [2, 3];
+
 /// The beginning of a reply. Two replies with the same answer may still differ in other bytes.
 #[derive(Debug, Clone, Copy, PartialEq, Eq)]
 pub struct Answer {
@@ -30,6 +33,11 @@ impl Answer {
     /// Return code 4, with which the library answers a request whose need is above the level. It denies no Linux request.
     pub fn is_denied(&self) -> bool {
         self.denied
+    }
+
+    /// Whether it has a return code that no header's check gives.
+    pub fn is_behind_header(&self) -> bool {
+        self.code.is_some_and(|code| !OF_HEADERS.contains(&code))
     }
 
     /// The numbers with their names.
@@ -89,6 +97,18 @@ mod tests {
         assert!(!answer(107, "set-phy-info return-code=4").is_denied());
         assert!(!answer(4, "set-phy-info return-code=4 buffer=20").is_denied());
         assert!(!answer(0, "linux set-phy-info return-code=4").is_denied());
+    }
+
+    #[test]
+    fn codes_that_come_behind_a_header() {
+        let behind = |call, line: &str| answer(call, line).is_behind_header();
+        for code in [0, 1, 4, 2002] {
+            assert!(behind(0, &format!("linux set-phy-info return-code={code}")));
+        }
+        assert!(!behind(0, "linux set-phy-info return-code=2"));
+        assert!(!behind(0, "linux set-phy-info return-code=3"));
+        assert!(!behind(100, "linux raw control=21 00*19"));
+        assert!(!behind(107, "linux set-phy-info"));
     }
 
     #[test]

@@ -4,8 +4,12 @@
 use crate::run::Run;
 use labkit::session::{layout, srb, Header, Request, DIRECTION, DRIVER_INFO};
 
+/// How a Linux request's twin is made; none if its buffer is shorter than its header, so that it has no body.
+pub type Twin = fn(&Request) -> Option<Vec<u8>>;
+
 /// The runs that are asked. None of them is shown.
 pub struct Asked {
+    twin: Twin,
     /// At level None, and always as it was opened: it grants nothing to the first header, and of Linux requests it is sent those alone
     /// that read the driver info.
     none: Run,
@@ -15,9 +19,9 @@ pub struct Asked {
 
 impl Asked {
     /// Asks a run at None that was just opened.
-    pub fn new(none: Run) -> Asked {
+    pub fn new(none: Run, twin: Twin) -> Asked {
         let copy = none.clone();
-        Asked { none, copy }
+        Asked { twin, none, copy }
     }
 
     /// Whether a request gets past its header's checks. Every request needs Restricted at least, so at None exactly those are denied that
@@ -26,7 +30,7 @@ impl Asked {
         match request.header {
             Header::Srb => denies(&mut self.none, request.buffer),
             Header::Linux { .. } => {
-                let twin = twin(request);
+                let twin = (self.twin)(request);
                 twin.is_some_and(|twin| denies(&mut self.none, &twin))
                     && self.direction_passes(request.buffer)
             }
@@ -51,7 +55,7 @@ impl Asked {
     /// Of any other nothing.
     pub fn above(&mut self, request: &Request, runs: &[Run]) -> Vec<bool> {
         let linux = request.header.is_linux() && self.passes(request);
-        let Some(twin) = twin(request).filter(|_| linux) else {
+        let Some(twin) = (self.twin)(request).filter(|_| linux) else {
             return Vec::new();
         };
         let mut denied = |run: &Run| {
@@ -70,11 +74,11 @@ fn denies(run: &mut Run, buffer: &[u8]) -> bool {
 }
 
 /// The twin of a Linux request: a sound first header with its control code, and with a Length that does not count the header; then its
-/// body. None if the header is not whole, or Length does not count it.
-fn twin(request: &Request) -> Option<Vec<u8>> {
+/// body. A Length under 20 wraps round to one that no body has, so that it is the library that refuses it.
+pub fn twin(request: &Request) -> Option<Vec<u8>> {
     let (control, body) = (request.control()?, request.body()?);
-    let whole = request.header.length().get(request.buffer);
-    let length = whole.checked_sub(request.header.size() as u32)?;
+    let length = request.header.length().get(request.buffer);
+    let length = length.wrapping_sub(request.header.size() as u32);
     Some([&srb(control, length), body].concat())
 }
 
@@ -107,7 +111,32 @@ mod tests {
             let linux = line.replace("length=0 buffer=31", "length=20 buffer=23");
             assert_eq!(twin_of(&format!("linux {linux}")), Some(first), "{line}");
         }
-        assert_eq!(twin_of("linux get-phy-info length=19"), None);
         assert_eq!(twin_of("linux get-phy-info buffer=19"), None);
+    }
+
+    /// That a Length under 20 does not pass is the library's rule.
+    #[test]
+    fn lengths_that_do_not_count_the_header() {
+        let file = labkit::adapter::parse("phy\n").unwrap();
+        let medium = vec![0; crate::state::DISK];
+        let none = Run::open("None", b"CSMI=None;", &file, &medium);
+        assert_eq!(none.opening, 0);
+        let mut asked = Asked::new(none, twin);
+        let mut passes = |line: &str| {
+            let (header, buffer) = buffer(line);
+            let buffer = &buffer;
+            asked.passes(&Request { header, buffer })
+        };
+        for length in 0..20 {
+            for name in ["get-phy-info", "set-phy-info", "stp-passthru"] {
+                assert!(!passes(&format!("linux {name} length={length}")));
+            }
+            let line = format!("get-phy-info length={}", u32::MAX - length);
+            assert_eq!(
+                twin_of(&format!("linux get-phy-info length={}", 19 - length)),
+                Some(buffer(&line).1)
+            );
+        }
+        assert!(passes("linux get-phy-info") && passes("linux set-phy-info"));
     }
 }

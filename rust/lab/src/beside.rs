@@ -15,10 +15,10 @@ pub struct Beside {
 }
 
 impl Beside {
-    /// A run at None, and where two levels are compared a second one at the higher, both just opened.
-    pub fn new(none: Run, without: Option<Run>) -> Beside {
+    /// What is asked, and where two levels are compared a second run at the higher, just opened.
+    pub fn new(asked: Asked, without: Option<Run>) -> Beside {
         Beside {
-            asked: Asked::new(none),
+            asked,
             past_header: false,
             without,
             same: true,

@@ -16,6 +16,8 @@ pub struct Exercise {
     pub session: Part,
     /// How the requests stand in the session's bytes.
     pub form: Form,
+    /// Why the session's name is that of the other form, if it is.
+    pub misnamed: Option<String>,
     /// The level texts of the runs in order: the lower and the higher, or all four.
     pub texts: Vec<Text>,
     pub disks: Option<Part>,
@@ -42,12 +44,13 @@ impl Exercise {
             false => vec![text(folder, "low")?, text(folder, "high")?],
         };
         let adapter = part(folder, "adapter.txt", "adapter.bin", adapter::parse)?;
-        let (session, form) = session::read(folder)?;
+        let session = session::read(folder)?;
         Ok(Exercise {
             name: options.name.clone(),
             adapter,
-            session,
-            form,
+            session: session.part,
+            form: session.form,
+            misnamed: session.misnamed,
             texts,
             disks: options.disks.as_deref().map(disks).transpose()?,
         })

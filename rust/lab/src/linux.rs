@@ -25,6 +25,26 @@ pub fn note(marking: &Marking, row: &Row) -> Option<String> {
     (!names.is_empty()).then(|| format!("runs as Full; {denied} under the first header"))
 }
 
+/// Why the answers to what was asked cannot be right: a Linux request that by them its header's checks stop has a return code that
+/// these do not give. What it needs was then not asked, and a write would pass for a read.
+pub fn contradiction(marking: &Marking) -> Option<String> {
+    let rows = marking.requests.iter().zip(&marking.rows).enumerate();
+    let mut stopped = rows.filter(|(_, (request, row))| request.header.is_linux() && !row.passed());
+    stopped.find_map(|(i, (_, row))| {
+        let answer = row.answers.iter().find(|answer| answer.is_behind_header())?;
+        Some(format!(
+            "request {} has the Linux header and got {}, but by what was asked about it its header's checks stop it: what it needs is not known, as this lab does not fit the library",
+            i + 1,
+            answer.words()
+        ))
+    })
+}
+
+/// The run whose level a colour goes by: the low one, and of all four the second, as None denies every request.
+pub fn coloured(marking: &Marking) -> usize {
+    usize::from(marking.runs.len() > 2)
+}
+
 /// The warning that such requests are there.
 pub fn warning(marking: &Marking) -> Option<String> {
     if marking.above(0) == 0 {

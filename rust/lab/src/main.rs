@@ -15,6 +15,7 @@ mod linux;
 mod marking;
 mod options;
 mod progress;
+mod readings;
 mod replies;
 mod report;
 mod row;
@@ -29,7 +30,7 @@ mod tests;
 use exercise::Exercise;
 use labkit::text::one_line;
 use marking::Marking;
-use options::{Form, Options};
+use options::{Options, Output};
 use std::env;
 use std::fs;
 use std::io::{ErrorKind, Write};
@@ -59,10 +60,10 @@ fn work() -> Result<u8, String> {
         let written = fs::write(file, report::html(&marking));
         written.map_err(|error| format!("{} cannot be written: {error}", files::shown(file)))?;
     }
-    print(&match options.form {
-        Form::Text => report::text(&marking),
-        Form::Csv => report::csv(&marking),
-        Form::Json => report::json(&marking),
+    print(&match options.output {
+        Output::Text => report::text(&marking),
+        Output::Csv => report::csv(&marking),
+        Output::Json => report::json(&marking),
     })?;
     Ok(marking.status())
 }

@@ -1,5 +1,6 @@
 //! An exercise run under its levels, request by request through the library, and what differs between the runs.
 
+use crate::asked::{twin, Asked, Twin};
 use crate::beside::Beside;
 use crate::exercise::Exercise;
 use crate::left::{self, Group, Left};
@@ -36,6 +37,15 @@ pub struct Marking<'a> {
 impl<'a> Marking<'a> {
     /// Runs an exercise; the replies go to a folder if one is named.
     pub fn of(exercise: &'a Exercise, folder: Option<&Path>) -> Result<Marking<'a>, String> {
+        Marking::by_twins(exercise, folder, twin)
+    }
+
+    /// Runs an exercise whose Linux requests are asked about by these twins.
+    pub fn by_twins(
+        exercise: &'a Exercise,
+        folder: Option<&Path>,
+        twin: Twin,
+    ) -> Result<Marking<'a>, String> {
         let session = exercise.form.split(&exercise.session.bytes);
         let medium = exercise.medium();
         let open = |run, text: &[u8]| Run::open(run, text, &exercise.adapter.bytes, &medium);
@@ -45,10 +55,9 @@ impl<'a> Marking<'a> {
             .map(|text| open(text.run, &text.bytes))
             .collect();
         let no_mark = verdict::before(exercise, &runs, &session);
-        let linux = |request: &&Request| request.header.is_linux();
         let mut marking = Marking {
             exercise,
-            linux: session.requests.iter().filter(linux).count(),
+            linux: session.linux(),
             cut: where_cut(&session, exercise),
             warnings: warnings(exercise, &runs, &session),
             requests: session.requests,
@@ -61,10 +70,10 @@ impl<'a> Marking<'a> {
         if marking.no_mark.is_none() {
             let two = exercise.texts.len() == 2;
             let without = two.then(|| open("high", &exercise.texts[1].bytes));
-            let beside = Beside::new(open("None", b"CSMI=None;"), without);
-            let replies =
-                folder.map(|folder| Replies::create(folder, exercise.form, &marking.runs));
-            marking.run(beside, replies.transpose()?)?;
+            let asked = Asked::new(open("None", b"CSMI=None;"), twin);
+            let replies = folder.map(|folder| Replies::create(folder, &marking));
+            let replies = replies.transpose()?;
+            marking.run(Beside::new(asked, without), replies)?;
         }
         Ok(marking)
     }
@@ -86,7 +95,8 @@ impl<'a> Marking<'a> {
         progress.end();
         self.left = self.left_behind();
         self.explained = beside.explained(&self.runs[0]);
-        self.no_mark = verdict::after(beside.past_header(), self.explained);
+        let contradiction = linux::contradiction(self);
+        self.no_mark = verdict::after(contradiction, beside.past_header(), self.explained);
         self.warnings.extend(linux::warning(self));
         replies.map_or(Ok(()), Replies::end)
     }
@@ -148,7 +158,7 @@ impl<'a> Marking<'a> {
 
 fn where_cut(session: &Session, exercise: &Exercise) -> Option<String> {
     let before = exercise.session.bytes.len() - session.tail.len();
-    (!session.tail.is_empty()).then(|| verdict::cut(session, before))
+    (!session.is_whole()).then(|| verdict::cut(session, before))
 }
 
 fn warnings(exercise: &Exercise, runs: &[Run], session: &Session) -> Vec<String> {

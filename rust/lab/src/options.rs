@@ -4,8 +4,9 @@ use crate::files::shown;
 use std::ffi::OsString;
 use std::path::PathBuf;
 
+/// What standard output gets.
 #[derive(Debug, Default, Clone, Copy, PartialEq, Eq)]
-pub enum Form {
+pub enum Output {
     #[default]
     Text,
     Csv,
@@ -17,7 +18,7 @@ pub struct Options {
     pub help: bool,
     /// All four levels in place of the two texts.
     pub levels: bool,
-    pub form: Form,
+    pub output: Output,
     pub html: Option<PathBuf>,
     pub disks: Option<PathBuf>,
     pub replies: Option<PathBuf>,
@@ -57,18 +58,18 @@ impl Options {
         match text {
             "--help" | "-h" => self.help = true,
             "--levels" => self.levels = true,
-            "--csv" => self.take_form(Form::Csv)?,
-            "--json" => self.take_form(Form::Json)?,
+            "--csv" => self.take_output(Output::Csv)?,
+            "--json" => self.take_output(Output::Json)?,
             _ => return self.take_path(text, word, words),
         }
         Ok(())
     }
 
-    fn take_form(&mut self, form: Form) -> Result<(), String> {
-        if self.form != Form::Text && self.form != form {
+    fn take_output(&mut self, output: Output) -> Result<(), String> {
+        if self.output != Output::Text && self.output != output {
             return Err("--csv and --json both go to standard output; take one".to_string());
         }
-        self.form = form;
+        self.output = output;
         Ok(())
     }
 
@@ -155,7 +156,7 @@ mod tests {
             (PathBuf::from("/s"), true)
         );
         let options = parsed("--sample /s --json -- -x").unwrap();
-        assert_eq!(options.form, Form::Json);
+        assert_eq!(options.output, Output::Json);
         assert_eq!(
             (options.folder, options.name),
             (PathBuf::from("-x"), "-x".to_string())

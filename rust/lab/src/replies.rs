@@ -1,7 +1,10 @@
-//! The requests and each run's replies written out, in the form of the session, and beside them the numbers as the program prints
-//! them. `labkit reply` and `labkit session-text` read the first, `labkit compare` the second.
+//! The requests and each run's replies written out, in the form of the session, and beside them the calls' numbers and return codes, a
+//! line for each request. `labkit reply` and `labkit session-text` read the first. The codes of requests with the first header are what
+//! the program prints, and `labkit compare` reads them. With Linux requests, which the program does not have and which run as Full in
+//! every run, they show no need, and their files have another name.
 
 use crate::files::shown;
+use crate::marking::Marking;
 use crate::run::Run;
 use labkit::session::{Form, Request};
 use std::fs::{self, File};
@@ -22,17 +25,17 @@ struct Out {
 }
 
 impl Replies {
-    pub fn create(folder: &Path, form: Form, runs: &[Run]) -> Result<Replies, String> {
+    /// The files for a marking that is to run.
+    pub fn create(folder: &Path, marking: &Marking) -> Result<Replies, String> {
         fs::create_dir_all(folder).map_err(|error| fault(folder, error))?;
-        let end = match form {
-            Form::Program => "",
-            Form::Both => ".both",
-        };
+        let form = marking.exercise.form;
+        let end = ending(form == Form::Both);
+        let codes_end = ending(marking.has_linux());
         let mut opened = Vec::new();
-        for run in runs {
+        for run in &marking.runs {
             let name = run.name.to_lowercase();
             let replies = Out::create(folder.join(format!("{name}.replies{end}")))?;
-            let mut codes = Out::create(folder.join(format!("{name}.codes")))?;
+            let mut codes = Out::create(folder.join(format!("{name}.codes{codes_end}")))?;
             codes.write(b"request call code\n")?;
             opened.push((replies, codes));
         }
@@ -67,6 +70,14 @@ impl Replies {
             codes.end()?;
         }
         Ok(())
+    }
+}
+
+/// How the name of a file ends.
+fn ending(both: bool) -> &'static str {
+    match both {
+        true => ".both",
+        false => "",
     }
 }
 

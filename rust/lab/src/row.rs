@@ -53,6 +53,11 @@ impl Row {
         self.like.iter().any(|first| *first != 0)
     }
 
+    /// Whether it is a Linux request that got past its header's checks, as far as was asked.
+    pub fn passed(&self) -> bool {
+        !self.above.is_empty()
+    }
+
     /// Whether a Linux request needs more than the level of a run.
     pub fn is_above(&self, run: usize) -> bool {
         self.above.get(run).is_some_and(|above| *above)

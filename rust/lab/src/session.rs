@@ -1,14 +1,22 @@
 //! The session of an exercise: `session.txt`, or `session` or `session.both`, the binaries of its two forms.
 
 use crate::files::{as_it_is, at, beside, shown, words, Part};
+use crate::readings::{named, Name};
 use labkit::session::Form;
 use std::path::Path;
 
 const TEXT: &str = "session.txt";
 const BINARIES: [(Form, &str); 2] = [(Form::Program, "session"), (Form::Both, "session.both")];
 
-/// The session of a folder, and its form.
-pub fn read(folder: &Path) -> Result<(Part, Form), String> {
+/// The session of a folder.
+pub struct Found {
+    pub part: Part,
+    pub form: Form,
+    /// Why its name is that of the other form, if it is.
+    pub misnamed: Option<String>,
+}
+
+pub fn read(folder: &Path) -> Result<Found, String> {
     match folder.join(TEXT).exists() {
         true => described(folder),
         false => binary(folder),
@@ -16,7 +24,7 @@ pub fn read(folder: &Path) -> Result<(Part, Form), String> {
 }
 
 /// A text, and what is to be said of the binaries beside it.
-fn described(folder: &Path) -> Result<(Part, Form), String> {
+fn described(folder: &Path) -> Result<Found, String> {
     let path = folder.join(TEXT);
     let text = words(&path)?;
     let form = Form::of(&text).map_err(|fault| at(&path, fault))?;
@@ -32,7 +40,11 @@ fn described(folder: &Path) -> Result<(Part, Form), String> {
         bytes,
         warnings,
     };
-    Ok((part, form))
+    Ok(Found {
+        part,
+        form,
+        misnamed: None,
+    })
 }
 
 /// The binaries that are there.
@@ -42,14 +54,10 @@ fn binaries(folder: &Path) -> Vec<(Form, &'static str)> {
 }
 
 /// The one binary that is there.
-fn binary(folder: &Path) -> Result<(Part, Form), String> {
+fn binary(folder: &Path) -> Result<Found, String> {
     let shown = shown(folder);
     match binaries(folder)[..] {
-        [(form, name)] => {
-            let mut part = as_it_is(folder, name)?;
-            part.warnings.extend(other_form(form, &part.bytes));
-            Ok((part, form))
-        }
+        [(form, name)] => Ok(held(form, as_it_is(folder, name)?)),
         [] => Err(format!(
             "{shown} has none of session.txt, session and session.both"
         )),
@@ -59,14 +67,19 @@ fn binary(folder: &Path) -> Result<(Part, Form), String> {
     }
 }
 
-/// A `session` that is a whole `session.both` too would be run as short requests with others among them.
-fn other_form(form: Form, bytes: &[u8]) -> Option<String> {
-    let both = Form::Both.split(bytes);
-    let whole = !both.requests.is_empty() && both.tail.is_empty();
-    (form == Form::Program && whole).then(|| {
-        format!(
-            "session also reads as a session of both headers, of {}; if it is one, its name is session.both",
-            crate::report::counted(both.requests.len(), "request")
-        )
-    })
+/// A binary, with what is to be said of its name.
+fn held(form: Form, mut part: Part) -> Found {
+    let misnamed = match named(form, &part.bytes) {
+        Name::Right => None,
+        Name::Doubtful(warning) => {
+            part.warnings.push(warning);
+            None
+        }
+        Name::Wrong(reason) => Some(reason),
+    };
+    Found {
+        part,
+        form,
+        misnamed,
+    }
 }

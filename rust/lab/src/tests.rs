@@ -35,6 +35,7 @@ fn exercise(seed: u64, levels: &[usize]) -> Exercise {
         adapter: part("adapter.bin", case.file),
         session: part("session", case.session),
         form: Form::Program,
+        misnamed: None,
         texts: levels.iter().map(text).collect(),
         disks: Some(part("disks", case.medium)),
     }

@@ -32,20 +32,27 @@ pub fn before(exercise: &Exercise, runs: &[Run], session: &Session) -> Option<St
             ));
         }
     }
-    match (session.requests.is_empty(), session.tail.is_empty()) {
+    if exercise.misnamed.is_some() {
+        return exercise.misnamed.clone();
+    }
+    match (session.requests.is_empty(), session.is_whole()) {
         (true, true) => Some(format!("the session of {} is empty", exercise.session.from)),
         (true, false) => Some(cut(session, 0)),
         _ => None,
     }
 }
 
-/// Why runs that have ended give no mark, by what the runs beside them say.
-pub fn after(past_header: bool, explained: Option<bool>) -> Option<String> {
-    match (past_header, explained) {
+/// Why runs that have ended give no mark: what was asked about a request contradicts its reply, or what the runs beside them say.
+pub fn after(
+    contradiction: Option<String>,
+    past_header: bool,
+    explained: Option<bool>,
+) -> Option<String> {
+    contradiction.or_else(|| match (past_header, explained) {
         (false, _) => Some(NOTHING_ASKED.to_string()),
         (true, Some(false)) => Some(NOT_AS_PROVED.to_string()),
         (true, _) => None,
-    }
+    })
 }
 
 /// Why an opening was refused, in words.
@@ -80,11 +87,16 @@ mod tests {
     fn runs_that_give_no_mark() {
         let begins =
             |verdict: Option<String>, words: &str| verdict.is_some_and(|v| v.starts_with(words));
-        assert!(begins(after(false, Some(true)), "no request gets past"));
-        assert!(begins(after(false, None), "no request gets past"));
-        assert!(begins(after(true, Some(false)), "the high run without"));
-        assert_eq!(after(true, Some(true)), None);
-        assert_eq!(after(true, None), None);
+        let asked = |past_header, explained| after(None, past_header, explained);
+        assert!(begins(asked(false, Some(true)), "no request gets past"));
+        assert!(begins(asked(false, None), "no request gets past"));
+        assert!(begins(asked(true, Some(false)), "the high run without"));
+        assert_eq!(asked(true, Some(true)), None);
+        assert_eq!(asked(true, None), None);
+        for past_header in [false, true] {
+            let reason = Some("request 2".to_string());
+            assert!(begins(after(reason, past_header, None), "request 2"));
+        }
     }
 
     #[test]

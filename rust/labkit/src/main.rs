@@ -115,10 +115,23 @@ fn show(
 }
 
 fn compare(session: &str, low: &str, high: &str) -> Result<(), String> {
+    for from in [session, low, high] {
+        of_the_program(from)?;
+    }
     let run =
         |from: &str| Transcript::parse(&text(from)?).map_err(|fault| format!("{from}: {fault}"));
     let compared = report::compare(&read(session)?, &run(low)?, &run(high)?)?;
     write("-", compared.table().as_bytes())
+}
+
+/// Refuses what `./lab --replies` writes of a session with Linux requests.
+fn of_the_program(from: &str) -> Result<(), String> {
+    match from.ends_with(".both") {
+        true => Err(format!(
+            "{from}: of both headers, and the program, whose codes are compared, has the first alone; Linux requests run as Full, so their codes show no need: ./lab gives the mark"
+        )),
+        false => Ok(()),
+    }
 }
 
 fn show_reply(header: Header, request: &str, reply: &str) -> Result<(), String> {

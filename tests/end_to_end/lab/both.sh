@@ -1,4 +1,4 @@
-# Sourced by ../run. session.both: beside a text, alone, damaged; and the kit on it.
+# Sourced by ../run. session.both: beside a text, alone, damaged, under the name of the other form; and the kit on it.
 
 cut_both="the session is cut at request"
 
@@ -38,8 +38,6 @@ rm "$dir/session.txt" "$dir/session"
 try "session.both with the first header alone" marks 0 "mark: 0 of 12 differ, 0 denied low; what they left is the same" "$dir"
 mv "$dir/session.both" "$dir/session"
 try "a session.both under the name session" marks 0 "warning session also reads as a session of both headers, of 12 requests; if it is one, its name is session.both" "$dir"
-dir=$(exercise_of both_renamed) && cp samples/writes/session "$dir/session.both"
-try "a session under the name session.both" no_mark "$cut_both 1, byte 0: its header is 202, which is neither 0, the first, nor 1, Linux's" "$dir"
 dir=$(exercise_of both_pipe) && rm "$dir/session.both" && mkfifo "$dir/session.both"
 try "a pipe for session.both" lab_refuses "$dir/session.both is not a file" "$dir"
 dir=$(exercise_of both_garbage) && garbage "$dir/session.both"
@@ -66,7 +64,53 @@ try "a tail behind Linux requests" marks 0 "$cut_both 2, byte 2084: its length s
 dir=$(with both_tail_alone session.txt "get-phy-info\nlinux tail 01000000 16000000 28000000 0102\n")
 try "a tail that says that it is of both headers" marks 0 "$cut_both 2, byte 2092: its length says 40 bytes, and there are 2" "$dir"
 
-# 3: descriptions
+# 3: a session under the name of the other form
+reads_as_both="session reads as a session of both headers, of"
+reads_as_program="session.both reads as a session in the program's form, of"
+
+# misnamed NAME FILE TEXT [OPTION]: an exercise whose session is this file, made from the text by labkit session.
+misnamed() {
+    local dir name=$1 file=$2 text=$3
+    shift 3
+    dir=$(with "$name" session.txt "$text") && "$kit" session "$@" "$dir/session.txt" "$dir/made" && rm "$dir/session.txt" && mv "$dir/made" "$dir/$file" && echo "$dir"
+}
+writer="get-phy-info\nget-link-errors phy=0\n$write_disk\nlinux set-phy-info phy=1 maximum=8\n"
+dir=$(misnamed named_writer session "$writer" --both)
+try "a Linux writer under the name session" no_mark "no mark: $reads_as_both 4 requests, 2 of them Linux; its name then is session.both" "$dir"
+try "its requests do not run" unmarked "success" "$dir"
+try "--levels of it" no_mark "$reads_as_both 4 requests, 2 of them Linux" --levels "$dir"
+try "--json of it" marks 2 "\"no_mark\": \"$reads_as_both 4 requests, 2 of them Linux; its name then is session.both\"" --json "$dir"
+try "--csv of it" marks 2 "no mark,,\"$reads_as_both 4 requests, 2 of them Linux; its name then is session.both\"" --csv "$dir"
+cp -r "$dir" "$work/named_right" && mv "$work/named_right/session" "$work/named_right/session.both"
+try "under its own name" marks 1 "mark: 0 of 4 differ, 0 denied low, 2 Linux requests above the low level" "$work/named_right"
+dir=$(misnamed named_cut session "$writer" --both) && truncate -s -1 "$dir/session"
+try "a Linux writer under the name session, cut short" no_mark "$reads_as_both 3 requests, 1 of them Linux, up to a cut; its name then is session.both" "$dir"
+dir=$(misnamed named_astray session "$writer" --both) && bytes 9 9 9 >>"$dir/session"
+try "a Linux writer under the name session, and what is no request" no_mark "$reads_as_both 4 requests, 2 of them Linux, up to a cut; its name then is session.both" "$dir"
+dir=$(misnamed named_padded session "get-phy-info\n$write_disk buffer=768\n" --both)
+try "a Linux writer that is whole in both forms" no_mark "$reads_as_both 2 requests, 1 of them Linux; its name then is session.both" "$dir"
+bytes 0 0 >>"$dir/session"
+try "and one that is cut in one of them alone" no_mark "$reads_as_both 2 requests, 1 of them Linux, up to a cut; its name then is session.both" "$dir"
+dir=$(misnamed named_linux session "linux get-phy-info\nlinux get-driver-info\n" --both)
+try "Linux requests alone under the name session" no_mark "$reads_as_both 2 requests, 2 of them Linux; its name then is session.both" "$dir"
+dir=$(misnamed named_long session "get-phy-info\nraw 00*32769\n" --both)
+try "a first header of a length that the program does not take" no_mark "$reads_as_both 2 requests; its name then is session.both" "$dir"
+dir=$(misnamed named_first session "get-phy-info\nset-phy-info phy=0 maximum=8\n" --both)
+try "first headers that are whole in both forms run" marks 1 "mark: 1 of 6 differ, 1 denied low" "$dir"
+try "with a warning" marks 1 "warning session also reads as a session of both headers, of 2 requests; if it is one, its name is session.both" "$dir"
+dir=$(misnamed named_short session "raw 16\nget-phy-info\nraw\nraw\nget-link-errors\n")
+try "short requests in the program's form run" marks 0 "mark: 0 of 5 differ, 0 denied low; what they left is the same" "$dir"
+try "without a warning" unmarked warning "$dir"
+dir=$(exercise_of both_renamed) && cp samples/writes/session "$dir/session.both"
+try "a session under the name session.both" no_mark "no mark: $reads_as_program 12 requests; its name then is session" "$dir"
+cp samples/refusals/session "$dir/session.both"
+try "a session that is cut under the name session.both" no_mark "$reads_as_program 16 requests, up to a cut; its name then is session" "$dir"
+dir=$(misnamed named_empty session.both "raw\nraw\nget-phy-info\nset-phy-info phy=0 maximum=8\n")
+try "a session that begins with empty requests under the name session.both" no_mark "$reads_as_program 4 requests; its name then is session" "$dir"
+mv "$dir/session.both" "$dir/session"
+try "under the name session" marks 1 "mark: 1 of 4 differ, 1 denied low" "$dir"
+
+# 4: descriptions
 round() {
     "$kit" session-text --both "$1" "$work/text" && "$kit" session --both "$work/text" "$work/again" && cmp "$work/again" "$1"
 }
@@ -99,20 +143,32 @@ try "a bad line with Linux requests" lab_refuses "$dir/session.txt: line 2: 'get
 dir=$(with both_fields session.txt "linux get-link-errors phy=0 controller=7 return-code=77 timeout=9 direction=1 ignored=FFFF buffer=50\nlinux raw control=22 00000000 28000000 00000000 3C000000 0000 0000 00*20\n")
 try "the fields of the Linux header by name, and raw" marks 0 "mark: 0 of 2 differ, 0 denied low, 0 Linux requests above the low level" "$dir"
 
-# 4: --replies, and labkit on what it writes
+# 5: --replies, and labkit on what it writes
 both_replies() {
     local out=$work/both_replies
     "$lab" --replies "$out" samples/linux >/dev/null
-    diff <(ls "$out") <(printf '%s\n' high.codes high.replies.both low.codes low.replies.both requests.both) &&
+    diff <(ls "$out") <(printf '%s\n' high.codes.both high.replies.both low.codes.both low.replies.both requests.both) &&
         cmp "$out/requests.both" samples/linux/session.both &&
         "$kit" reply --both "$out/requests.both" "$out/high.replies.both" 7 >"$work/words" &&
         grep -qxF 'linux stp-passthru (25): 0 success' "$work/words" && grep -qF '* data               5A*512' "$work/words" &&
         "$kit" reply --both "$out/requests.both" "$out/low.replies.both" 8 | grep -qxF 'set-phy-info (21): 4 denied, write attempted' &&
         "$kit" reply --both "$out/requests.both" "$out/low.replies.both" 12 | grep -qxF 'linux unknown control code (CC770014h): 2 bad control code' &&
-        diff <(printf '%s\n' 'request call code' '1 0 0') <(head -n 2 "$out/low.codes") && grep -qx '8 0 4' "$out/low.codes"
+        diff <(printf '%s\n' 'request call code' '1 0 0') <(head -n 2 "$out/low.codes.both") && grep -qx '8 0 4' "$out/low.codes.both"
 }
 try "--replies with Linux requests, and labkit reply --both on them" both_replies
 try "labkit reply --both, no such request" refuses 1 "labkit: $work/both_replies/requests.both has requests 1 to 12, and no 13" "$kit" reply --both "$work/both_replies/requests.both" "$work/both_replies/low.replies.both" 13
+no_codes="of both headers, and the program, whose codes are compared, has the first alone; Linux requests run as Full, so their codes show no need: ./lab gives the mark"
+try "labkit compare on codes of both headers" refuses 1 "labkit: $work/both_replies/low.codes.both: $no_codes" "$kit" compare samples/writes/session "$work/both_replies/low.codes.both" "$work/both_replies/high.codes.both"
+try "labkit compare on a session of both headers" refuses 1 "labkit: samples/linux/session.both: $no_codes" "$kit" compare samples/linux/session.both "$work/replies/low.codes" "$work/replies/high.codes"
+# Without Linux requests the codes are what the program prints, whatever the form.
+first_codes() {
+    local out=$work/first_replies
+    mkdir "$work/first_both" && cp samples/writes/{adapter,low,high}.txt "$work/first_both/" && "$kit" session --both samples/writes/session.txt "$work/first_both/session.both" &&
+        ! "$lab" --replies "$out" "$work/first_both" >/dev/null &&
+        diff <(ls "$out") <(printf '%s\n' high.codes high.replies.both low.codes low.replies.both requests.both) &&
+        diff "$work/replies/low.codes" "$out/low.codes" && diff "$work/replies/high.codes" "$out/high.codes"
+}
+try "--replies of a session.both with the first header alone" first_codes
 described_replies() {
     "$kit" session-text --both "$work/both_replies/low.replies.both" - | grep -qxF 'linux get-phy-info length=2052 return-code=3'
 }

@@ -104,9 +104,20 @@ linux_page() {
         has 1 '<p class="mark">mark: 2 of 12 differ, 1 denied low, 2 Linux requests above the low level; 1 value and 0 sectors left differ</p>' &&
         has 1 '<p class="warning">warning: requests 5 and 6 have the Linux header' &&
         has 2 '<tr class="above"><td class="number">[56]</td>.*<td class="word">runs as Full; denied low under the first header</td></tr>' &&
-        has 2 '<tr class="differs"><td class="number">[89]</td>' && has 11 '<td class="request">linux '
+        has 2 '<tr class="differs"><td class="number">[89]</td>' && has 11 '<td class="request">linux ' &&
+        has 1 '<th>no</th><th>request</th><th>low</th><th>high</th><th>remarks</th>' && has 3 '<th>low</th><th>high</th><th>differs</th>'
 }
 try "the page of Linux requests" linux_page
+# With all levels the colour goes by Restricted: None denies what reads, too.
+linux_levels_page() {
+    "$lab" --levels --html "$page" samples/linux >/dev/null
+    [ $? -eq 1 ] && has 2 '<tr class="above"><td class="number">[0-9]*</td>' &&
+        has 2 '<tr class="above"><td class="number">[56]</td>.*runs as Full; denied at None, Restricted and Limited under the first header</td></tr>' &&
+        has 5 '<tr class="same"><td class="number">[0-9]*</td>.*<td class="word">runs as Full; denied at None under the first header</td></tr>' &&
+        has 2 '<tr class="differs"><td class="number">[89]</td>' &&
+        has 1 '<th>None</th><th>Restricted</th><th>Limited</th><th>Full</th><th>remarks</th>'
+}
+try "the page of Linux requests at all levels" linux_levels_page
 other_page() {
     "$lab" --html "$page" samples/writes >/dev/null
     has 0 above

@@ -4,6 +4,7 @@
 use super::escape::html as plain;
 use super::{explained, group, head, pairs, remarks, verdict};
 use crate::left::{sectors, COUNTERS, GROUPS};
+use crate::linux::coloured;
 use crate::marking::Marking;
 use crate::row::Row;
 use crate::state::{parts, phy_at, PHY_SIZE, SECTOR};
@@ -46,10 +47,14 @@ fn section(title: &str, content: &str) -> String {
 fn requests(marking: &Marking) -> String {
     let mut rows = String::new();
     for (i, (request, row)) in marking.requests.iter().zip(&marking.rows).enumerate() {
-        let remarks = remarks(marking, row);
-        rows.push_str(&of_row(i + 1, &request_words(request), row, &remarks));
+        rows.push_str(&of_row(marking, i + 1, &request_words(request), row));
     }
-    let mut content = table(&heads(marking, &["no", "request"], &["differs"]), &rows);
+    let last = if marking.has_linux() {
+        "remarks"
+    } else {
+        "differs"
+    };
+    let mut content = table(&heads(marking, &["no", "request"], &[last]), &rows);
     let notes = pairs(marking).into_iter().map(|(one, other, count)| {
         let (one, other) = (marking.runs[one].name, marking.runs[other].name);
         format!(
@@ -70,7 +75,7 @@ fn requests(marking: &Marking) -> String {
 }
 
 /// A request's row, and below it a row for each part of the replies that differs.
-fn of_row(number: usize, request: &str, row: &Row, remarks: &str) -> String {
+fn of_row(marking: &Marking, number: usize, request: &str, row: &Row) -> String {
     let mut cells = vec![
         cell("number", &number.to_string()),
         cell("request", request),
@@ -80,8 +85,8 @@ fn of_row(number: usize, request: &str, row: &Row, remarks: &str) -> String {
             .iter()
             .map(|answer| cell("answer", &answer.words())),
     );
-    cells.push(cell("word", remarks));
-    let class = match (row.differs(), row.is_above(0)) {
+    cells.push(cell("word", &remarks(marking, row)));
+    let class = match (row.differs(), row.is_above(coloured(marking))) {
         (true, true) => "differs above",
         (true, false) => "differs",
         (false, true) => "above",

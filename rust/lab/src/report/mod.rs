@@ -85,10 +85,10 @@ fn header_key(request: &Request) -> &'static str {
     }
 }
 
-/// How many requests the session has, and how many of them are Linux ones.
-fn session_words(marking: &Marking) -> String {
-    let requests = counted(marking.requests.len(), "request");
-    match marking.linux {
+/// How many requests a session has, and how many of them are Linux ones.
+pub fn requests_words(requests: usize, linux: usize) -> String {
+    let requests = counted(requests, "request");
+    match linux {
         0 => requests,
         count => format!("{requests}, {count} of them Linux"),
     }
@@ -143,7 +143,11 @@ fn head(marking: &Marking) -> Vec<(String, String)> {
         ),
         (
             "session".to_string(),
-            format!("{}, {}", exercise.session.from, session_words(marking)),
+            format!(
+                "{}, {}",
+                exercise.session.from,
+                requests_words(marking.requests.len(), marking.linux)
+            ),
         ),
     ];
     if let Some(disks) = &exercise.disks {

@@ -1,6 +1,8 @@
 //! Generated sessions of both headers, what document 01 and W-201 say of their Linux requests, and the library's run of them.
 
 use super::*;
+use crate::asked::twin;
+use crate::readings::{named, Name};
 use crate::run::Run;
 use differential::names::{body_size, code, header, stp};
 use differential::random::Random;
@@ -72,7 +74,11 @@ pub fn passes(control: u32, buffer: &[u8]) -> bool {
 /// Whether a Linux request passes its checks and a sound one with the same code and body under the first header is denied.
 pub fn is_above(state: &State, medium: &[u8], control: u32, buffer: &[u8]) -> bool {
     passes(control, buffer)
-        && model::denied(state, medium, &of_body(control, &buffer[linux::SIZE..]).buffer)
+        && model::denied(
+            state,
+            medium,
+            &of_body(control, &buffer[linux::SIZE..]).buffer,
+        )
 }
 
 /// Whatever the level, in a session of both headers the library's run gives the replies and the numbers that its calls give.
@@ -145,4 +151,63 @@ fn a_console_that_writes_is_not_taken_for_one_that_reads() {
         seen += 1;
     }
     assert!(seen > 20, "{seen}");
+}
+
+/// The twin by a kit that knows another signature for the code that changes a phy: the header's checks stop it.
+fn wrong_twin(request: &Request) -> Option<Vec<u8>> {
+    let mut made = twin(request)?;
+    if request.control() == Some(code::SET_PHY_INFO) {
+        made[header::SIGNATURE] ^= 0xFF;
+    }
+    Some(made)
+}
+
+/// What a request needs that was served is not asked by a wrong twin. Then there is no mark, or it would pass for one that reads.
+#[test]
+fn a_wrong_twin_gives_no_mark() {
+    let mut seen = 0;
+    for seed in 0..CASES {
+        for (levels, lines) in [
+            (
+                &[1, 3][..],
+                "linux get-phy-info\nlinux set-phy-info phy=0\n",
+            ),
+            (&[0, 1, 2, 3], "get-phy-info\nlinux set-phy-info phy=0\n"),
+            (
+                &[1, 3],
+                "linux set-phy-info direction=2\nlinux set-phy-info phy=0\n",
+            ),
+        ] {
+            let mut exercise = exercise(seed, levels);
+            exercise.form = Form::Both;
+            exercise.session.bytes = Form::Both.parse(lines).unwrap();
+            if Marking::of(&exercise, None).unwrap().status() == 2 {
+                continue;
+            }
+            let marking = Marking::by_twins(&exercise, None, wrong_twin).unwrap();
+            assert_eq!((marking.above(0), marking.status()), (0, 2), "seed {seed}");
+            let got = marking.rows[1].answers[0].words();
+            let reason = format!("request 2 has the Linux header and got {got}, but by what was asked about it its header's checks stop it: what it needs is not known, as this lab does not fit the library");
+            assert_eq!(marking.no_mark, Some(reason), "seed {seed}");
+            seen += 1;
+        }
+    }
+    assert!(seen > 60, "{seen}");
+}
+
+/// Generated sessions under the name of their form run; those with Linux requests do not under the other.
+#[test]
+fn sessions_under_the_name_of_the_other_form() {
+    let mut refused = 0;
+    for seed in 0..CASES {
+        let [first, both] = exercises(seed, &[1, 3]).map(|exercise| exercise.session.bytes);
+        assert_eq!(named(Form::Program, &first), Name::Right, "seed {seed}");
+        assert_eq!(named(Form::Both, &both), Name::Right, "seed {seed}");
+        if Form::Both.split(&both).linux() > 0 {
+            let name = named(Form::Program, &both);
+            assert!(matches!(name, Name::Wrong(_)), "seed {seed}");
+            refused += 1;
+        }
+    }
+    assert!(refused > 100, "{refused}");
 }

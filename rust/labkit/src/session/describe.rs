@@ -27,8 +27,7 @@ pub fn describe(session: &Session) -> String {
 
 /// The tail alone can say that the session is one of both headers, where no request does.
 fn said_by_the_tail(session: &Session) -> bool {
-    let linux = |request: &Request| request.header.is_linux();
-    session.form == Form::Both && !session.requests.iter().any(linux)
+    session.form == Form::Both && session.linux() == 0
 }
 
 /// The line of one request.

@@ -95,6 +95,12 @@ impl Form {
         }
     }
 
+    /// Whether bytes begin a request, whole or cut short.
+    pub fn begins(self, bytes: &[u8]) -> bool {
+        let before = bytes.get(..self.before());
+        before.is_none_or(|before| self.announced(before).is_ok())
+    }
+
     /// Why no whole request stands at the front.
     pub fn why_cut(self, tail: &[u8]) -> String {
         let Some((before, rest)) = tail.split_at_checked(self.before()) else {
@@ -205,7 +211,13 @@ mod tests {
         for end in 28..session.len() {
             let cut = Form::Both.split(&session[..end]);
             assert_eq!((cut.requests.len(), cut.tail.len()), (2, end - 27));
+            assert!(!cut.is_whole() && !cut.strays());
         }
+        assert!(cut.is_whole() && !cut.strays());
+        assert_eq!(
+            (cut.linux(), Form::Both.split(&session[..14]).linux()),
+            (2, 0)
+        );
     }
 
     #[test]
@@ -214,6 +226,7 @@ mod tests {
             let bytes = numbers.map(u32::to_le_bytes).concat();
             let cut = Form::Both.split(&bytes);
             assert_eq!((cut.requests.len(), cut.tail), (0, &bytes[..]));
+            assert_eq!(cut.strays(), numbers[0] != 1);
             Form::Both.why_cut(&bytes)
         };
         assert_eq!(

@@ -43,6 +43,24 @@ pub struct Session<'a> {
     pub tail: &'a [u8],
 }
 
+impl Session<'_> {
+    /// How many of the requests have the Linux header.
+    pub fn linux(&self) -> usize {
+        let linux = |request: &&Request| request.header.is_linux();
+        self.requests.iter().filter(linux).count()
+    }
+
+    /// Whether nothing is left behind the last request.
+    pub fn is_whole(&self) -> bool {
+        self.tail.is_empty()
+    }
+
+    /// Whether it ends at bytes that begin no request of its form. A request that is cut short begins one.
+    pub fn strays(&self) -> bool {
+        !self.form.begins(self.tail)
+    }
+}
+
 /// The session for the program that a description makes.
 pub fn parse(text: &str) -> Result<Vec<u8>, Fault> {
     Form::Program.parse(text)
