@@ -1,6 +1,6 @@
-//! Numbers and offsets: the model's, the library's frames and lines of a session, and what the comparison has besides.
+//! Numbers and offsets: the model's, the library's prefixes and lines of a session, and what the comparison has besides.
 
-pub use library::{frame, record};
+pub use library::{prefix, record};
 pub use model::codes::{ata, device, direction, fis_type, rate, status, NOT_GIVEN};
 pub use model::layout::{
     device_address, file, fis, header, link_errors, linux_header, phy_info, row, sata_signature,

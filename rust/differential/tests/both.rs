@@ -1,10 +1,10 @@
-//! Sessions whose requests have either header, by the library's run of both: its frames, its ends and its record.
+//! Sessions whose requests have either header, by the library's run of both: its prefixes, its ends and its record.
 
 use differential::adapter::Adapter;
 use differential::case::{Case, Outcome};
 use differential::compare::compare;
 use differential::generate;
-use differential::names::{code, frame, record};
+use differential::names::{code, prefix, record};
 use differential::random::Random;
 use differential::request::{first, linux, Header, Request};
 use differential::session::end::{cut, of_no_header};
@@ -31,7 +31,7 @@ fn in_turn(seed: u64, count: usize) -> Case {
     Case::of_requests(seed, b"CSMI=None;", &adapter.file(), &medium, &requests)
 }
 
-/// Where each request of a case starts, its frame included, and where the last ends.
+/// Where each request of a case starts, its prefix included, and where the last ends.
 fn starts(case: &Case) -> Vec<usize> {
     let mut starts = vec![0];
     while let Some((_, place)) = case.framing.next(&case.session, *starts.last().unwrap()) {
@@ -52,34 +52,34 @@ fn a_session_cut_at_each_place() {
     }
 }
 
-/// Every value of each byte of a frame, before a request with the first header and before one with the Linux header.
+/// Every value of each byte of a prefix, before a request with the first header and before one with the Linux header.
 #[test]
 fn every_value_of_each_frame_byte() {
     let case = in_turn(2, 4);
     let starts = starts(&case);
     for (n, is_linux) in [(1, false), (2, true)] {
         for (at, change) in
-            (0..frame::SIZE).flat_map(|at| (1..=255).map(move |change| (at, change)))
+            (0..prefix::SIZE).flat_map(|at| (1..=255).map(move |change| (at, change)))
         {
             let mut case = case.clone();
             case.session[starts[n] + at] ^= change;
             // no header, or the first with a control code
             let ends = match at {
-                frame::HEADER => change > 1 || is_linux,
-                1..frame::CONTROL => true,
-                frame::CONTROL..frame::LENGTH => !is_linux,
+                prefix::HEADER => change > 1 || is_linux,
+                1..prefix::CONTROL => true,
+                prefix::CONTROL..prefix::LENGTH => !is_linux,
                 _ => false,
             };
             let handled = agreed(&case).handled;
             assert!(
                 handled >= n && (!ends || handled == n),
-                "byte {at} of frame {n}"
+                "byte {at} of prefix {n}"
             );
         }
     }
 }
 
-/// Behind a frame that names no header nothing is handled, and nothing changes.
+/// Behind a prefix that names no header nothing is handled, and nothing changes.
 #[test]
 fn frames_that_name_no_header() {
     let random = &mut Random::new(3);
@@ -169,7 +169,7 @@ fn first_headers_alone_go_by_either_run() {
     }
 }
 
-/// The bytes of a request of one header behind a frame of the other, as from a console that takes the wrong call.
+/// The bytes of a request of one header behind a prefix of the other, as from a console that takes the wrong call.
 #[test]
 fn requests_behind_the_frame_of_the_other_header() {
     for seed in 0..40 {

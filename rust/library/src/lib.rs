@@ -15,7 +15,7 @@ pub mod record {
 }
 
 /// What stands before each request of a session of both headers: three numbers of 32 bits.
-pub mod frame {
+pub mod prefix {
     /// Which header the request has.
     pub const HEADER: usize = 0;
     /// The control code of a Linux request; 0 with the first header.
@@ -99,7 +99,7 @@ pub fn run(
     )
 }
 
-/// The same for a session whose requests have either header, each with a `frame` before it. A frame of another header, or of the first
+/// The same for a session whose requests have either header, each with a `prefix` before it. A prefix of another header, or of the first
 /// with a control code, ends the session.
 pub fn run_both(
     text: &[u8],

@@ -1,12 +1,12 @@
 //! Ends of sessions, which no request follows.
 
 use super::Framing;
-use crate::names::{frame, header, linux_header, PROGRAM_LONGEST};
+use crate::names::{header, linux_header, prefix, PROGRAM_LONGEST};
 use crate::random::Random;
 use crate::request::{any_code, Header};
 use crate::wire::put_word;
 
-/// Nothing, a frame that is cut, one that names no header, or a request that is cut.
+/// Nothing, a prefix that is cut, one that names no header, or a request that is cut.
 pub fn any(random: &mut Random, framing: Framing) -> Vec<u8> {
     let longest = PROGRAM_LONGEST as u32;
     let header = any_header(random, framing);
@@ -34,14 +34,14 @@ fn any_header(random: &mut Random, framing: Framing) -> Header {
     }
 }
 
-/// A frame, and so many bytes behind it.
+/// A prefix, and so many bytes behind it.
 pub fn cut(framing: Framing, header: Header, length: u32, bytes: usize) -> Vec<u8> {
-    let mut end = framing.frame(header, length);
+    let mut end = framing.prefix(header, length);
     end.resize(framing.size() + bytes, 0x5A);
     end
 }
 
-/// A whole request behind a frame that names neither header, or the first and a control code.
+/// A whole request behind a prefix that names neither header, or the first and a control code.
 pub fn of_no_header(random: &mut Random) -> Vec<u8> {
     let (control, other) = (any_code(random), random.word() | 2);
     let bytes = random.pick(&[0, linux_header::SIZE, header::SIZE, 300]);
@@ -51,10 +51,10 @@ pub fn of_no_header(random: &mut Random) -> Vec<u8> {
         bytes as u32,
         bytes,
     );
-    let number = random.pick(&[frame::FIRST, 2, 0x100, 0x0100_0000, u32::MAX, other]);
-    put_word(&mut end, frame::HEADER, number);
-    if number != frame::FIRST && random.one_in(2) {
-        put_word(&mut end, frame::CONTROL, 0);
+    let number = random.pick(&[prefix::FIRST, 2, 0x100, 0x0100_0000, u32::MAX, other]);
+    put_word(&mut end, prefix::HEADER, number);
+    if number != prefix::FIRST && random.one_in(2) {
+        put_word(&mut end, prefix::CONTROL, 0);
     }
     end
 }

@@ -1,8 +1,8 @@
-//! Sessions: requests one after the other, each behind a frame that says how long it is and, where both headers may stand, which it has.
+//! Sessions: requests one after the other, each behind a prefix that says how long it is and, where both headers may stand, which it has.
 
 pub mod end;
 
-use crate::names::frame;
+use crate::names::prefix;
 use crate::request::{Header, Request};
 use crate::wire::word;
 use std::ops::Range;
@@ -26,20 +26,20 @@ impl Framing {
         }
     }
 
-    /// The size of a frame, whose last 4 bytes are the length.
+    /// The size of a prefix, whose last 4 bytes are the length.
     pub fn size(self) -> usize {
         match self {
             Framing::First => 4,
-            Framing::Both => frame::SIZE,
+            Framing::Both => prefix::SIZE,
         }
     }
 
-    /// The frame of a request of so many bytes.
-    pub fn frame(self, header: Header, length: u32) -> Vec<u8> {
+    /// The prefix of a request of so many bytes.
+    pub fn prefix(self, header: Header, length: u32) -> Vec<u8> {
         let length = length.to_le_bytes();
         let (number, control) = match header {
-            Header::First => (frame::FIRST, 0),
-            Header::Linux { control } => (frame::LINUX, control),
+            Header::First => (prefix::FIRST, 0),
+            Header::Linux { control } => (prefix::LINUX, control),
         };
         match self {
             Framing::First => length.to_vec(),
@@ -51,14 +51,14 @@ impl Framing {
         assert!(self == Framing::Both || Framing::of(requests) == Framing::First);
         let mut session = Vec::new();
         for request in requests {
-            session.extend(self.frame(request.header, request.buffer.len() as u32));
+            session.extend(self.prefix(request.header, request.buffer.len() as u32));
             session.extend(&request.buffer);
         }
         session
     }
 
     /// The header of the next request of a session, from `at` on, and where it stands; `None` at the end, where it is cut, and behind a
-    /// frame that names no header.
+    /// prefix that names no header.
     pub fn next(self, session: &[u8], at: usize) -> Option<(Header, Range<usize>)> {
         let start = at
             .checked_add(self.size())
@@ -73,9 +73,9 @@ impl Framing {
         if self == Framing::First {
             return Some(Header::First);
         }
-        match (word(bytes, frame::HEADER), word(bytes, frame::CONTROL)) {
-            (frame::FIRST, 0) => Some(Header::First),
-            (frame::LINUX, control) => Some(Header::Linux { control }),
+        match (word(bytes, prefix::HEADER), word(bytes, prefix::CONTROL)) {
+            (prefix::FIRST, 0) => Some(Header::First),
+            (prefix::LINUX, control) => Some(Header::Linux { control }),
             _ => None,
         }
     }

@@ -8,7 +8,7 @@ use differential::names::{body_size, code, header, stp};
 use differential::random::Random;
 use differential::request::first::of_body;
 use differential::wire::{put_word, word};
-use library::{frame, record};
+use library::{prefix, record};
 use model::layout::linux_header as linux;
 
 /// The exercise with half of its requests under the Linux header.
@@ -115,18 +115,18 @@ fn the_run_of_both_headers_is_the_calls() {
 
 /// What stands before a request is what the library has there.
 #[test]
-fn frames_are_those_of_the_library() {
+fn prefixes_are_those_of_the_library() {
     let session = Form::Both
         .parse("raw 0102\nlinux raw control=22 03")
         .unwrap();
     let number = |at: usize| word(&session, at);
-    assert_eq!(number(frame::HEADER), frame::FIRST);
-    assert_eq!((number(frame::CONTROL), number(frame::LENGTH)), (0, 2));
-    let second = frame::SIZE + 2;
-    assert_eq!(number(second + frame::HEADER), frame::LINUX);
-    assert_eq!(number(second + frame::CONTROL), 22);
-    assert_eq!(number(second + frame::LENGTH), 1);
-    assert_eq!(session.len(), second + frame::SIZE + 1);
+    assert_eq!(number(prefix::HEADER), prefix::FIRST);
+    assert_eq!((number(prefix::CONTROL), number(prefix::LENGTH)), (0, 2));
+    let second = prefix::SIZE + 2;
+    assert_eq!(number(second + prefix::HEADER), prefix::LINUX);
+    assert_eq!(number(second + prefix::CONTROL), 22);
+    assert_eq!(number(second + prefix::LENGTH), 1);
+    assert_eq!(session.len(), second + prefix::SIZE + 1);
 }
 
 /// A console that writes, all under the Linux header: nothing differs, and the mark says what it needs all the same.

@@ -97,14 +97,14 @@ fn a_session_of_both_headers() {
     let mut denied = first;
     denied[header::RETURN_CODE] = 4;
     let session = [
-        framed(frame::FIRST, 0, &first),
-        framed(frame::LINUX, 21, &set_phy_info()),
-        framed(frame::LINUX, 21, &[OTHER; 19]),
+        framed(prefix::FIRST, 0, &first),
+        framed(prefix::LINUX, 21, &set_phy_info()),
+        framed(prefix::LINUX, 21, &[OTHER; 19]),
     ];
     let expected = [
-        framed(frame::FIRST, 0, &denied),
-        framed(frame::LINUX, 21, &replied(0)),
-        framed(frame::LINUX, 21, &[OTHER; 19]),
+        framed(prefix::FIRST, 0, &denied),
+        framed(prefix::LINUX, 21, &replied(0)),
+        framed(prefix::LINUX, 21, &[OTHER; 19]),
     ];
     let lines = [[0, 4], [0, 0], [100, record::NO_CODE]];
     let record: Vec<u8> = lines
@@ -122,13 +122,13 @@ fn a_session_of_both_headers() {
 /// Another header, the first with a control code, a request cut short: it and what follows stay.
 #[test]
 fn what_ends_a_session_of_both_headers() {
-    let linux = framed(frame::LINUX, 21, &set_phy_info());
+    let linux = framed(prefix::LINUX, 21, &set_phy_info());
     let ends = [
         framed(2, 21, &set_phy_info()),
         framed(u32::MAX, 0, &set_phy_info()),
-        framed(frame::FIRST, 21, &set_phy_info()),
+        framed(prefix::FIRST, 21, &set_phy_info()),
         linux[..linux.len() - 1].to_vec(),
-        linux[..frame::SIZE - 1].to_vec(),
+        linux[..prefix::SIZE - 1].to_vec(),
     ];
     for end in ends {
         let rest = if end.len() < linux.len() {
@@ -140,7 +140,7 @@ fn what_ends_a_session_of_both_headers() {
         let (handled, after, record) = ran(&session);
         assert_eq!(handled, 1);
         assert_eq!(after[linux.len()..], session[linux.len()..]);
-        assert_eq!(after[frame::SIZE..linux.len()], replied(0));
+        assert_eq!(after[prefix::SIZE..linux.len()], replied(0));
         assert_eq!(record[..record::SIZE], [0; record::SIZE]);
         assert_eq!(record[record::SIZE..], [OTHER; 2 * record::SIZE]);
     }
@@ -149,8 +149,8 @@ fn what_ends_a_session_of_both_headers() {
 #[test]
 fn after_a_refused_opening_both_headers_get_107() {
     let requests = [
-        framed(frame::FIRST, 0, &[]),
-        framed(frame::LINUX, 21, &set_phy_info()),
+        framed(prefix::FIRST, 0, &[]),
+        framed(prefix::LINUX, 21, &set_phy_info()),
     ];
     let session = requests.concat();
     let (mut after, mut record) = (session.clone(), [OTHER; 2 * record::SIZE]);
