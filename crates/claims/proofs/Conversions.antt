@@ -38,10 +38,10 @@ use Rattle.claims.specs.RoundTrip.{Sound, bodyShown, grants, RoundTrip, 
 use Rattle.claims.proofs.Demand3.{sized-opened}
 
 -- a point whose state and medium are accepted, and whose rows have 16 and 4 bytes
-pub record AcceptedRows (p : Point) : Type 0 where
-  pub number : pointNumber p ≡ 0
-  pub sas : (i : ℕ) → i < p .state .adapter .«row_count» → length (rowAt (p .state .adapter .rows) i .sas) ≡ 16
-  pub os : (i : ℕ) → i < p .state .adapter .«row_count» → length (rowAt (p .state .adapter .rows) i .os) ≡ 4
+record AcceptedRows (p : Point) : Type 0 where
+  number : pointNumber p ≡ 0
+  sas : (i : ℕ) → i < p .state .adapter .«row_count» → length (rowAt (p .state .adapter .rows) i .sas) ≡ 16
+  os : (i : ℕ) → i < p .state .adapter .«row_count» → length (rowAt (p .state .adapter .rows) i .os) ≡ 4
 
 -- what it is answered with, of a code that only reports
 unfoldable reportedBy : Point → Request → Report → Outcome
@@ -132,7 +132,7 @@ module _ (p : Point) (w : AcceptedRows p) where
   device-stays : (q : Request) → Sound p q getDeviceAddress → step p q ≡ p
   device-stays q o = ap (λ (x : Outcome). x .point) (device-handled q o) ∙ reported-stays p q (deviceReport q)
 
-  pub both-ways : RoundTrip p
+  both-ways : RoundTrip p
   unfolding converted structureSize
   both-ways =
       record {

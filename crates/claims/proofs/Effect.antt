@@ -34,7 +34,7 @@ Quiet {K} {A} w t = (key : K) (before : A) → after w key t before ≡ before
 
 module _ {K A : Type 0} (w : Writer K A) (t : Told) where
   -- what was not granted
-  pub quiet-refused : t .granted ≡ false → Quiet w t
+  quiet-refused : t .granted ≡ false → Quiet w t
   unfolding after
   quiet-refused g key before = rw g refl
 

@@ -64,7 +64,7 @@ linux-room control buffer h =
     let most : n ≤ length buffer = leb-true n (length buffer) (both-right (leb (20 + size) n) (leb n (length buffer)) (c .0)) in
     rw (length-drop 20 buffer) (omega arith)
 
-pub header-room : (r : Request) → headerCode r ≡ 0 → HasStructure r
+header-room : (r : Request) → headerCode r ≡ 0 → HasStructure r
 header-room r = by-kind (r .kind) (r .buffer)
   where
     by-kind : (kind : Kind) (buffer : List ℕ) → codeBy kind buffer ≡ 0 → HasStructure (sent kind buffer)
