@@ -72,6 +72,14 @@ dataRead = 0
 abbrev pub dataWrite : ℕ
 dataWrite = 1
 
+-- bResetCounts of a code 22 (6.9): its place in the body, and RESET_COUNTS
+
+abbrev pub resetPlace : ℕ
+resetPlace = 1
+
+abbrev pub resetCounts : ℕ
+resetCounts = 1
+
 -- return codes ("In the return code", document 01)
 
 abbrev pub success : ℕ

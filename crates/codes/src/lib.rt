@@ -43,6 +43,11 @@ pub const DATA_READ: u16 = 0;
 
 pub const DATA_WRITE: u16 = 1;
 
+// The place of bResetCounts in the body of a code 22, and the value that clears the counters.
+pub const RESET_PLACE: usize = 1;
+
+pub const RESET_COUNTS: u8 = 1;
+
 // Return codes.
 pub const SUCCESS: u32 = 0;
 

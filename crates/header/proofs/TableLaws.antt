@@ -5,28 +5,34 @@ use Prim.Native.Nat.{ℕ, _-_, _≤_}
 use native.Mathlib.Nat.{le-trans}
 use native.Mathlib.Omega.{arith}
 use lib.Dec.{eqb}
+use lib.ListN.{getD}
 use Rattle.laws.specs.Choice.{either}
-use Rattle.codes.specs.Codes.{getDriverInfo, getPhyInfo, setPhyInfo, getLinkErrors, stpPassthru, getSataSignature, getScsiAddress, getDeviceAddress}
+use Rattle.codes.specs.Codes.{getDriverInfo, getPhyInfo, setPhyInfo, getLinkErrors, stpPassthru, getSataSignature, getScsiAddress, getDeviceAddress, resetPlace, resetCounts}
 use Rattle.level.specs.declared.Level.{Level}
 use Rattle.level.specs.Text.{full}
 use Rattle.level.proofs.BoundLaws.{need-bound}
 use Rattle.stp.specs.Body.{command}
-use Rattle.header.specs.Table.{structureSize, need}
+use Rattle.header.specs.Table.{structureSize, linkErrorsNeed, need}
 use Rattle.header.specs.Sent.{above}
 
--- a code 25 whose structure is there has its fixed part
+-- a code 22 whose structure is there has all of it
+pub errors-room : (control k n : ℕ) → control ≡ getLinkErrors → structureSize control ≤ n → k ≤ 20 → k ≤ n
+unfolding structureSize
+errors-room control k n e h l = le-trans l (rw e at h)
+
+-- and a code 25 its fixed part
 pub passthrough-room : (control k n : ℕ) → control ≡ stpPassthru → structureSize control ≤ n → k ≤ 136 → k ≤ n
 unfolding structureSize
 passthrough-room control k n e h l = le-trans l (rw e at h)
 
 -- no need is above Full
 pub need-full : (control : ℕ) (body : List ℕ) → need control body .0 ≤ full .0
-unfolding need
+unfolding need linkErrorsNeed
 need-full control body =
     either Within (eqb control getDriverInfo) (omega arith)
     (either Within (eqb control getPhyInfo) (omega arith)
     (either Within (eqb control setPhyInfo) (omega arith)
-    (either Within (eqb control getLinkErrors) (omega arith)
+    (either Within (eqb control getLinkErrors) (either Within (eqb (getD body resetPlace 0) resetCounts) (omega arith) (omega arith))
     (either Within (eqb control stpPassthru) (need-bound (command body))
     (either Within (eqb control getSataSignature) (omega arith)
     (either Within (eqb control getScsiAddress) (omega arith)

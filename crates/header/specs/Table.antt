@@ -5,8 +5,9 @@ use mathlib.Core.Bool.{Bool, cond, _||_}
 use mathlib.Core.List.{List, [], _∷_, _++_}
 use Prim.Native.Nat.{ℕ}
 use lib.Dec.{eqb}
+use lib.ListN.{getD}
 use Rattle.laws.specs.Ascii.{ascii}
-use Rattle.codes.specs.Codes.{getDriverInfo, getPhyInfo, setPhyInfo, getLinkErrors, stpPassthru, getSataSignature, getScsiAddress, getDeviceAddress}
+use Rattle.codes.specs.Codes.{getDriverInfo, getPhyInfo, setPhyInfo, getLinkErrors, stpPassthru, getSataSignature, getScsiAddress, getDeviceAddress, resetPlace, resetCounts}
 use Rattle.level.specs.declared.Level.{Level}
 use Rattle.level.specs.Text.{restricted, full}
 use Rattle.level.specs.Need.{needOf}
@@ -52,6 +53,10 @@ csmiSas = ascii "CSMISAS" ++ (0 ∷ [])
 unfoldable pub signedAll : ℕ → Bool
 signedAll control = eqb control getDriverInfo
 
+-- "A code 22 request with its reset byte at 1 needs Full ..; with any other byte it still needs Restricted" (W-202)
+unfoldable pub linkErrorsNeed : ℕ → Level
+linkErrorsNeed reset = cond (eqb reset resetCounts) full restricted
+
 -- "codes 1, 20, 22, 26, 27, 28 Restricted; 21 Full. .. Code 25 takes the need of each of the 256 command codes, byte 2 of the command
 -- FIS". A code that no line names needs Full
 unfoldable pub need : ℕ → List ℕ → Level
@@ -59,7 +64,7 @@ need control body =
     cond (eqb control getDriverInfo) restricted
     (cond (eqb control getPhyInfo) restricted
     (cond (eqb control setPhyInfo) full
-    (cond (eqb control getLinkErrors) restricted
+    (cond (eqb control getLinkErrors) (linkErrorsNeed (getD body resetPlace 0))
     (cond (eqb control stpPassthru) (needOf (command body))
     (cond (eqb control getSataSignature) restricted
     (cond (eqb control getScsiAddress) restricted

@@ -1,4 +1,5 @@
 // What each control code asks of a request.
+use crate::reset::link_errors_need;
 use level::Level;
 ghost use mathlib.Core.Path.{_≡_};
 ghost use Prim.Native.Nat.{_≤_};
@@ -83,7 +84,7 @@ pub fn need(control: u32, body: &[u8]) -> Level
         return Level::FULL;
     }
     if control == codes::GET_LINK_ERRORS {
-        return Level::RESTRICTED;
+        return link_errors_need(body[codes::RESET_PLACE]);
     }
     if control == codes::STP_PASSTHRU {
         return Level::from_need(body[stp::COMMAND]);

@@ -36,7 +36,7 @@ fn after_reset(tables: &mut [u8], n: PhyIdentifier, phy: Phy, byte: u8) -> u32
     requires { ⌜ length (now tables) ≡ tablesSize ⌝ }
     ensures { λ code. ⌜ gives code (tablesOf (now (tables .exit))) ≡ afterReset (tablesOf (now (tables .entry))) n phy byte ⌝ }
 {
-    if byte == 1 {
+    if byte == codes::RESET_COUNTS {
         return clear_counters(tables, n, phy);
     }
     codes::SUCCESS
@@ -61,9 +61,9 @@ pub fn get_link_errors(tables: &mut [u8], body: &mut [u8]) -> u32
     requires { ⌜ 20 ≤ length (now body) ⌝ }
     ensures { λ code. ⌜ leaves code (tablesOf (now (tables .exit))) (now (body .exit)) ≡ linkErrors (tablesOf (now (tables .entry))) (now (body .entry)) ⌝ }
 {
-    if body[1] <= 1 {
+    if body[codes::RESET_PLACE] <= 1 {
         if tables::phy_exists(tables, body[0]) {
-            return show_counters(tables, PhyIdentifier(body[0]), body[1], body);
+            return show_counters(tables, PhyIdentifier(body[0]), body[codes::RESET_PLACE], body);
         }
         return codes::PHY_DOES_NOT_EXIST;
     }

@@ -1,6 +1,6 @@
 -- `header::table::need` meets its contract. Assumes nothing.
 use borrow.Author.Needs.{needs}
-use Rattle.header.proofs.TableLaws.{passthrough-room}
+use Rattle.header.proofs.TableLaws.{errors-room, passthrough-room}
 use Rattle.header.specs.Table.{need}
 use Rattle.laws.specs.Choice.{picks}
 use Rattle.header.proofs.table.need.Statement.{statement}
@@ -10,6 +10,7 @@ pub need-spec : {M : Type 1} → statement M
 unfolding need
 need-spec =
     tie.close
-    (tie.spec (λ c. search picks depth 14) (λ c. search picks depth 14) (λ c. search picks depth 14) (λ c. search picks depth 14)
+    (tie.spec (λ c. search picks depth 14) (λ c. search picks depth 14) (λ c. search picks depth 14)
+    (λ c. search (errors-room, needs)) (λ c κs. search needs) (λ c. search picks depth 14)
     (λ c. search (passthrough-room, needs)) (λ c κs. search needs) (λ c. search picks depth 14) (λ c. search picks depth 14)
     (λ c. search picks depth 14) (λ c. search picks depth 14) (λ c. search picks depth 14))

@@ -1,0 +1,14 @@
+// The need of a code 22: clearing counters is a write (W-202).
+use level::Level;
+ghost use mathlib.Core.Path.{_≡_};
+ghost use Rattle.header.specs.Table.{linkErrorsNeed};
+
+// By its reset byte.
+pub fn link_errors_need(reset: u8) -> Level
+    ensures { λ r. ⌜ r ≡ linkErrorsNeed reset ⌝ }
+{
+    if reset == codes::RESET_COUNTS {
+        return Level::FULL;
+    }
+    Level::RESTRICTED
+}
