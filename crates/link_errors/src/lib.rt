@@ -63,7 +63,12 @@ pub fn get_link_errors(tables: &mut [u8], body: &mut [u8]) -> u32
 {
     if body[codes::RESET_PLACE] <= 1 {
         if tables::phy_exists(tables, body[0]) {
-            return show_counters(tables, PhyIdentifier(body[0]), body[codes::RESET_PLACE], body);
+            return show_counters(
+                tables,
+                PhyIdentifier(body[0]),
+                body[codes::RESET_PLACE],
+                body,
+            );
         }
         return codes::PHY_DOES_NOT_EXIST;
     }
