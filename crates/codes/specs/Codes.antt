@@ -1,4 +1,4 @@
--- The numbers of CSMI's section 10, each said once, under section 10's names: control codes, link rates, device types, connection status, directions and return codes. Where
+-- The numbers of CSMI's section 10, each said once, under section 10's names: control codes, link rates, device types, connection status, directions, the reset of counters and return codes. Where
 -- document 01 prints another number, section 10 decides, as document 01 says. The call's own numbers are document 01's.
 -- Assumes nothing.
 use Prim.Native.Nat.{ℕ}

@@ -1,4 +1,4 @@
-// The numbers of CSMI's section 10, each said once: control codes, link rates, device types and return codes. The call's own numbers are document 01's.
+// The numbers of CSMI's section 10, each said once: control codes, link rates, device types, connection status, directions, the reset of counters and return codes. The call's own numbers are document 01's.
 
 // Control codes.
 pub const GET_DRIVER_INFO: u32 = 1;

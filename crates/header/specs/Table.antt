@@ -58,7 +58,7 @@ unfoldable pub linkErrorsNeed : ℕ → Level
 linkErrorsNeed reset = cond (eqb reset resetCounts) full restricted
 
 -- "codes 1, 20, 22, 26, 27, 28 Restricted; 21 Full. .. Code 25 takes the need of each of the 256 command codes, byte 2 of the command
--- FIS". A code that no line names needs Full
+-- FIS"; code 22 as above. A code that no line names needs Full
 unfoldable pub need : ℕ → List ℕ → Level
 need control body =
     cond (eqb control getDriverInfo) restricted
