@@ -52,6 +52,12 @@ pub mod direction {
     pub const DATA_WRITE: u16 = 1;
 }
 
+/// The reset byte of code 22.
+pub mod link_error {
+    pub const DONT_RESET_COUNTS: u8 = 0;
+    pub const RESET_COUNTS: u8 = 1;
+}
+
 /// Attached device types.
 pub mod device {
     pub const NONE: u8 = 0x00;

@@ -1,6 +1,7 @@
 //! The control codes: the signature, the size and the need of each.
 
 use crate::codes::control;
+use crate::codes::link_error::RESET_COUNTS;
 use crate::layout::{
     device_address, fis, link_errors, phy_info, sata_signature, scsi_address, set_phy_info, stp,
     DRIVER_INFO,
@@ -57,10 +58,13 @@ impl Control {
         }
     }
 
-    /// "Need, the lowest level that may do it". `body` holds the structure.
+    /// "Need, the lowest level that may do it". "A code 22 request with its reset byte at 1 needs
+    /// Full from now on; with any other byte it still needs Restricted" (W-202). `body` holds the
+    /// structure.
     pub fn need(self, body: &[u8]) -> Level {
         match self {
             Control::SetPhyInfo => Level::Full,
+            Control::LinkErrors if body[link_errors::RESET] == RESET_COUNTS => Level::Full,
             Control::StpPassthrough => Level::of_command(body[stp::COMMAND_FIS + fis::COMMAND]),
             _ => Level::Restricted,
         }

@@ -57,6 +57,13 @@ pub fn sample() -> State {
     state
 }
 
+/// The sample at a level.
+pub fn sample_at(level: u8) -> State {
+    let mut state = sample();
+    state.level = level;
+    state
+}
+
 pub fn row(n: u8) -> Row {
     Row {
         sas_address: address(n),

@@ -1,6 +1,6 @@
 //! The checks of every request: the numbers, the header and the level, in their order.
 
-use super::adapter::{answer_of, buffer, fis, medium, passthrough, row, sample};
+use super::adapter::{answer_of, buffer, fis, medium, passthrough, row, sample, sample_at};
 use crate::layout::entity;
 use crate::{denied, request, State};
 
@@ -122,8 +122,7 @@ fn levels() {
     for (code, body) in bodies() {
         for level in 0..=3 {
             let need = if code == 21 { 3 } else { 1 };
-            let mut state = sample();
-            state.level = level;
+            let mut state = sample_at(level);
             let mut sent = buffer(code, &body);
             assert_eq!(denied(&state, &medium(5), &sent), level < need);
             let expected = if level < need { 4 } else { 0 };
@@ -132,8 +131,7 @@ fn levels() {
     }
     for (command, need) in [(0x92, 2), (0xE8, 2), (0x30, 3), (0xA0, 3), (0x20, 1)] {
         for level in 0..=3 {
-            let mut state = sample();
-            state.level = level;
+            let mut state = sample_at(level);
             let mut body = passthrough(fis(command, 0, 1), &[0; 512]);
             // "Level tested after the phy" is wrong
             body[0] = 99;
@@ -143,8 +141,7 @@ fn levels() {
         }
     }
     // denied only past the Length check
-    let mut state = sample();
-    state.level = 0;
+    let state = sample_at(0);
     assert!(!denied(&state, &medium(5), &buffer(21, &[0; 7])));
     assert!(!denied(&state, &medium(4), &buffer(21, &[0; 8])));
     assert!(denied(&state, &medium(5), &buffer(21, &[0; 8])));

@@ -10,7 +10,7 @@ use super::adapter::{medium, sample};
 use crate::{request_linux, State};
 
 /// A sound buffer with this body; the bytes that are not read hold anything.
-fn buffer(body: &[u8]) -> Vec<u8> {
+pub fn buffer(body: &[u8]) -> Vec<u8> {
     [
         &0x4444_4444u32.to_le_bytes()[..],
         &(20 + body.len() as u32).to_le_bytes(),
@@ -28,7 +28,7 @@ fn return_code(buffer: &[u8]) -> u32 {
 
 /// The return code of a request whose call's number is 0; of the header only the code's bytes
 /// change, of the body, the state and the medium nothing if it isn't 0, and the level never.
-fn code_of(state: &mut State, medium: &mut [u8], control: u32, buffer: &mut [u8]) -> u32 {
+pub fn code_of(state: &mut State, medium: &mut [u8], control: u32, buffer: &mut [u8]) -> u32 {
     let before = (state.clone(), medium.to_vec(), buffer.to_vec());
     assert_eq!(request_linux(state, medium, control, buffer), 0);
     let code = return_code(buffer);
@@ -46,11 +46,4 @@ fn code_of(state: &mut State, medium: &mut [u8], control: u32, buffer: &mut [u8]
 /// The return code of one request to the sample.
 fn answer(control: u32, buffer: &mut [u8]) -> u32 {
     code_of(&mut sample(), &mut medium(5), control, buffer)
-}
-
-/// The sample at a level.
-fn sample_at(level: u8) -> State {
-    let mut state = sample();
-    state.level = level;
-    state
 }

@@ -1,7 +1,7 @@
 //! Which codes are known, and that each is served at every level.
 
-use super::{answer, buffer, code_of, sample_at};
-use crate::tests::adapter::{fis, medium, passthrough, sample};
+use super::{answer, buffer, code_of};
+use crate::tests::adapter::{fis, medium, passthrough, sample, sample_at};
 use crate::tests::header::bodies;
 
 /// The numbers that Linux's own ioctl calls have for the eight codes (section 10).
