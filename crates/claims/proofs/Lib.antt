@@ -10,4 +10,5 @@ pub mod Demand3
 pub mod Conversions
 pub mod Sameness
 pub mod PastBoth
+pub mod ReadOnly
 pub mod Starred

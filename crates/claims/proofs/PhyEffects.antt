@@ -1,7 +1,7 @@
 -- The effects of codes 21 and 22: the phy that each stores. Assumes nothing.
 use mathlib.Core.Path.{_≡_, refl, sym, _∙_}
 use mathlib.Core.Logic.{_≢_}
-use mathlib.Core.Bool.{Bool, true, cond, _&&_, not}
+use mathlib.Core.Bool.{Bool, true, false, cond, _&&_, not, true≢false}
 use mathlib.Core.List.{List}
 use Prim.Native.Nat.{ℕ, _<_, _≤_}
 use native.Mathlib.Omega.{arith}
@@ -9,7 +9,7 @@ use lib.Dec.{eqb, leb, ltb}
 use lib.ListN.{length, getD}
 use borrow.Author.Tests.{eq-eqb, ne-eqb, ltb-true}
 use Rattle.laws.specs.Choice.{by-bool, both-right, either, either-by}
-use Rattle.codes.specs.Codes.{success, setPhyInfo, getLinkErrors}
+use Rattle.codes.specs.Codes.{success, setPhyInfo, getLinkErrors, resetPlace, resetCounts}
 use Rattle.phy.specs.declared.Phy.{Phy}
 use Rattle.phy.specs.declared.PhyIdentifier.{PhyIdentifier}
 use Rattle.phy.specs.Entity.{programmedMinimum, programmedMaximum}
@@ -110,6 +110,28 @@ told-other : (body : List ℕ) (place m before : ℕ) → m ≢ named body → a
 unfolding after
 told-other body place m before d = rw (ne-eqb (named body) m (λ q. d (sym q))) refl
 
+-- ---- code 22: the ways that it can go
+
+module _ (ad : Adapter) (body : List ℕ) where
+  errors-by : (P : Changed → Type 0) → ((code : ℕ) → 0 < code → code ≤ 2014 → P (leaves code ad body))
+      → (eqb (getD body resetPlace 0) resetCounts ≡ true → named body < ad .«phy_count»
+      → P (leaves success (withPhy ad (named body) (cleared (phyIn ad (named body)))) (countersShown body (phyIn ad (named body) .counters))))
+      → P (leaves success ad (countersShown body (phyIn ad (named body) .counters))) → P (linkErrors ad body)
+  unfolding linkErrors afterReset
+  errors-by P refused cleared kept =
+      either P (leb (getD body resetPlace 0) 1)
+      (either-by P (ltb (named body) (ad .«phy_count»))
+      (λ k. either-by (λ (s : Stored). P (withBody s (countersShown body (phyIn ad (named body) .counters)))) (eqb (getD body resetPlace 0) resetCounts)
+      (λ t. cleared t (ltb-true (named body) (ad .«phy_count») k)) (λ _. kept))
+      (λ _. refused 2002 (omega arith) (omega arith)))
+      (refused 3 (omega arith) (omega arith))
+
+  -- one that does not clear leaves the tables
+  pub errors-read : eqb (getD body resetPlace 0) resetCounts ≡ false → linkErrors ad body .adapter ≡ ad
+  errors-read e = errors-by (λ (c : Changed). c .adapter ≡ ad) (λ _ _ _. refl) (λ t _. absurd (true≢false (sym t ∙ e))) refl
+
+-- ---- their effects
+
 module _ (ad : Adapter) (store : Store) (body : List ℕ) (h : adapterHolds ad ≡ true) (z : Sized ad) where
   abbrev n : ℕ
   n = named body
@@ -146,18 +168,7 @@ module _ (ad : Adapter) (store : Store) (body : List ℕ) (h : adapterHolds ad �
         };
       })
 
-  -- ---- code 22
-
-  errors-by : (P : Changed → Type 0) → ((code : ℕ) → 0 < code → code ≤ 2014 → P (leaves code ad body))
-      → (n < ad .«phy_count» → P (leaves success (withPhy ad n (cleared phy)) (countersShown body (phy .counters))))
-      → P (leaves success ad (countersShown body (phy .counters))) → P (linkErrors ad body)
-  unfolding linkErrors afterReset
-  errors-by P refused cleared kept =
-      either P (leb (getD body 1 0) 1)
-      (either-by P (ltb n (ad .«phy_count»))
-      (λ k. either (λ (s : Stored). P (withBody s (countersShown body (phy .counters)))) (eqb (getD body 1 0) 1) (cleared (ltb-true n (ad .«phy_count») k)) kept)
-      (λ _. refused 2002 (omega arith) (omega arith)))
-      (refused 3 (omega arith) (omega arith))
+  -- ---- code 22: the phy that it clears
 
   abbrev toldErrors : Told
   toldErrors = record { granted = true; control = getLinkErrors; body = body; reply = countersShown body (phy .counters) }
@@ -169,9 +180,9 @@ module _ (ad : Adapter) (store : Store) (body : List ℕ) (h : adapterHolds ad �
 
   pub errors-effect : Does ad store getLinkErrors body (changed store (linkErrors ad body))
   errors-effect =
-      errors-by (λ (c : Changed). Does ad store getLinkErrors body (changed store c))
+      errors-by ad body (λ (c : Changed). Does ad store getLinkErrors body (changed store c))
       (λ code k l. record { small = l; effect = no-effect ad _ store (ne-eqb code success (λ e. omega arith)) })
-      (λ k. record {
+      (λ _ k. record {
         small = omega arith;
         effect = record {
           tables = stored-effect ad toldErrors n (cleared phy) h z (errors-storing k);

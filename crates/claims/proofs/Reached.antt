@@ -64,7 +64,7 @@ module _ (p : Point) (r : Request) where
       handled-by p r EffectOf
       (λ call h. no-effect (p .state .adapter) _ (p .store) (told-number p r call h))
       (λ code h k long. no-effect (p .state .adapter) _ (p .store) (told-refused p r code h k long))
-      (λ long k. served-effect long z k)
+      (λ _ long k. served-effect long z k)
 
 -- ---- the number of the state and the medium
 

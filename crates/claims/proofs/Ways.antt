@@ -55,7 +55,7 @@ tables-hold s = both-right (leb (s .level .0) 3) (adapterHolds (s .adapter))
 pub handled-by : (p : Point) (r : Request) (P : Outcome → Type 0)
     → ((call : ℕ) → 0 < call → P (untouched call p r))
     → ((code : ℕ) → 0 < code → code ≤ 4 → formOf r .size ≤ length (r .buffer) → P (replied (formOf r) (p .state .level) (refusedRequest code (p .state .adapter) (p .store) r)))
-    → (formOf r .size ≤ length (r .buffer) → Ready (p .state .adapter) (p .store) (controlOf r) (bodyOf r)
+    → (checksCode (p .state .level) r ≡ success → formOf r .size ≤ length (r .buffer) → Ready (p .state .adapter) (p .store) (controlOf r) (bodyOf r)
     → P (replied (formOf r) (p .state .level) (inBuffer r (served (p .state .adapter) (p .store) (controlOf r) (bodyOf r)))))
     → P (handled p r)
 unfolding handled answeredAt answered
@@ -67,10 +67,11 @@ handled-by p r P number refuse serve =
     let n : pointNumber p ≡ 0 = heard-number (formOf r) (pointNumber p) (length (r .buffer)) call refl e in
     let long : formOf r .size ≤ length (r .buffer) = heard-buffer (formOf r) (pointNumber p) (length (r .buffer)) call refl e in
     either-by (λ x. P (replied (formOf r) level x)) (eqb (checksCode level r) success)
-    (λ y. serve long (record {
+    (λ y. let passes : checksCode level r ≡ success = eqb-true (checksCode level r) success y in
+    serve passes long (record {
       holds = tables-hold (p .state) (number-state (p .state) (length (p .store .medium)) n);
       disks = number-medium (p .state) (length (p .store .medium)) n;
-      room = checks-room level r (eqb-true (checksCode level r) success y);
+      room = checks-room level r passes;
     }))
     (λ y. let c : (checksCode level r ≡ 0 → ⊥) = eqb-false (checksCode level r) success y in
     refuse (checksCode level r) (omega arith) (checks-small level r) long))

@@ -3,4 +3,5 @@ pub mod LastWriter
 pub mod Claim
 pub mod RoundTrip
 pub mod Sameness
+pub mod ReadOnly
 pub mod Starred

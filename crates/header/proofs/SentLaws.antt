@@ -7,8 +7,8 @@ use native.Mathlib.Nat.{le-trans}
 use native.Mathlib.Omega.{arith}
 use lib.Dec.{eqb, leb, ltb}
 use lib.ListN.{length, take, drop, length-drop}
-use borrow.Author.Tests.{leb-true, le-ltb, ltb-false, eqb-true}
-use Rattle.laws.specs.Choice.{by-bool, both-left, both-right, came-then, either, and-false}
+use borrow.Author.Tests.{leb-true, le-ltb, ltb-false, eq-eqb, eqb-true}
+use Rattle.laws.specs.Choice.{by-bool, both-left, both-right, came-then, came-else, either, and-false}
 use Rattle.laws.specs.Splice.{rest}
 use Rattle.codes.specs.Codes.{success, writeAttempted}
 use Rattle.level.specs.declared.Level.{Level}
@@ -130,6 +130,13 @@ module _ (level : Level) (r : Request) where
   -- a request that passes them has its structure and its data
   pub checks-room : checksCode level r ≡ 0 → HasStructure r
   checks-room h = header-room r (checks-header h)
+
+  -- and its need is at most the level that it is held to
+  pub checks-need : checksCode level r ≡ 0 → need (controlOf r) (bodyOf r) .0 ≤ levelBy (r .kind) level .0
+  unfolding checksCode above Passes
+  checks-need h =
+      let k : cond (above level r) writeAttempted success ≡ 0 = rw (eq-eqb (headerCode r) success (checks-header h)) at h in
+      ltb-false (levelBy (r .kind) level .0) (need (controlOf r) (bodyOf r) .0) (came-else Passes (above level r) (λ e. omega arith) k .0)
 
   -- their code is small
   pub checks-small : checksCode level r ≤ 4

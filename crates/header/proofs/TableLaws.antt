@@ -1,15 +1,17 @@
 -- What the control codes' table says of all of them. Assumes nothing.
-use mathlib.Core.Path.{_≡_}
+use mathlib.Core.Path.{_≡_, refl}
+use mathlib.Core.Bool.{Bool, false, cond}
 use mathlib.Core.List.{List}
-use Prim.Native.Nat.{ℕ, _-_, _≤_}
+use Prim.Native.Nat.{ℕ, _<_, _≤_}
 use native.Mathlib.Nat.{le-trans}
 use native.Mathlib.Omega.{arith}
 use lib.Dec.{eqb}
 use lib.ListN.{getD}
-use Rattle.laws.specs.Choice.{either}
+use Rattle.laws.specs.Choice.{by-bool, either}
 use Rattle.codes.specs.Codes.{getDriverInfo, getPhyInfo, setPhyInfo, getLinkErrors, stpPassthru, getSataSignature, getScsiAddress, getDeviceAddress, resetPlace, resetCounts}
 use Rattle.level.specs.declared.Level.{Level}
-use Rattle.level.specs.Text.{full}
+use Rattle.level.specs.Text.{restricted, full}
+use Rattle.level.specs.Need.{among, needOf}
 use Rattle.level.proofs.BoundLaws.{need-bound}
 use Rattle.stp.specs.Body.{command}
 use Rattle.header.specs.Table.{structureSize, linkErrorsNeed, need}
@@ -40,3 +42,22 @@ need-full control body =
   where
     Within : Level → Type 0
     Within l = l .0 ≤ full .0
+
+-- ---- a need below Full
+
+module _ (control : ℕ) (body : List ℕ) (h : need control body .0 < full .0) where
+  -- is not that of a code 21
+  pub below-sets : control ≡ setPhyInfo → ⊥
+  unfolding need
+  below-sets e = let k : 3 < 3 = rw e at h in omega arith
+
+  -- nor of a code 22 that clears
+  pub below-clears : control ≡ getLinkErrors → eqb (getD body resetPlace 0) resetCounts ≡ false
+  unfolding need linkErrorsNeed
+  below-clears e =
+      by-bool (λ (b : Bool). cond b full restricted .0 < 3 → b ≡ false) (λ l. absurd (omega arith)) (λ _. refl) (eqb (getD body resetPlace 0) resetCounts) (rw e at h)
+
+  -- nor of a code 25 that writes
+  pub below-writes : control ≡ stpPassthru → command body ≡ 0x30 → ⊥
+  unfolding need needOf among
+  below-writes e c = let k : 3 < 3 = rw (e, c) at h in omega arith

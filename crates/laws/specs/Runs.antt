@@ -1,6 +1,6 @@
 -- Runs of any step over any list of events: what goes on holding, the last writer of any view, and two runs compared. A step leads from a
 -- point to the next, and its note is what the log keeps of it. Assumes nothing.
-use mathlib.Core.Path.{_≡_, refl, _∙_, ap, ap₂}
+use mathlib.Core.Path.{_≡_, refl, sym, _∙_, ap, ap₂}
 use mathlib.Core.Bool.{Bool, true, false, cond}
 use mathlib.Core.List.{List, [], _∷_}
 use Rattle.laws.specs.Cases.{All}
@@ -64,6 +64,32 @@ module _ {P E X : Type 0} (step : P → E → P) (note : P → E → X) where
     by-log view after s p [] i = refl
     by-log view after s p (e ∷ es) i =
         by-log view after s (step p e) es (keeps p e i) ∙ ap (λ v. fold after v (log (step p e) es)) (s p e i)
+
+  -- events that leave every point of a run as it is can be left out of its list
+  module _ (I : P → Type 0) (keeps : (p : P) (e : E) → I p → I (step p e)) (idle : E → Bool)
+      (stays : (p : P) (e : E) → I p → idle e ≡ true → step p e ≡ p)
+    where
+      pub ends-without : (p : P) (es : List E) → I p → ends p (undropped idle es) ≡ ends p es
+      unfolding ends undropped
+      ends-without p [] i = refl
+      ends-without p (e ∷ es) i =
+          by-bool (λ (b : Bool). idle e ≡ b → ends p (cond b (undropped idle es) (e ∷ undropped idle es)) ≡ ends (step p e) es)
+          (λ d. ends-without p es i ∙ ap (λ (q : P). ends q es) (sym (stays p e i d)))
+          (λ _. ends-without (step p e) es (keeps p e i))
+          (idle e) refl
+
+      -- and their notes are what its log is without
+      pub log-without : (event : X → E) → ((p : P) (e : E) → event (note p e) ≡ e) → (p : P) (es : List E) → I p
+          → log p (undropped idle es) ≡ undropped (λ (x : X). idle (event x)) (log p es)
+      unfolding log undropped
+      log-without event back p [] i = refl
+      log-without event back p (e ∷ es) i =
+          let left : (P → List X) = λ q. undropped (λ (x : X). idle (event x)) (log q es) in
+          rw (back p e)
+          (by-bool (λ (b : Bool). idle e ≡ b → log p (cond b (undropped idle es) (e ∷ undropped idle es)) ≡ cond b (left (step p e)) (note p e ∷ left (step p e)))
+          (λ d. log-without event back p es i ∙ ap left (sym (stays p e i d)))
+          (λ _. ap (λ (xs : List X). note p e ∷ xs) (log-without event back (step p e) es (keeps p e i)))
+          (idle e) refl)
 
   -- two runs: the higher one is given what the lower one does not drop, in events of its own
   module _ (dropped : X → Bool) (Pair : P → P → E → E → Type 0) where

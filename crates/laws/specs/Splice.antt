@@ -5,7 +5,7 @@ use mathlib.Core.List.{List, [], _∷_, _++_, append-assoc, append-nil}
 use Prim.Native.Nat.{ℕ, zero, suc, _+_, _-_, _<_, _≤_}
 use native.Mathlib.Nat.{sub-zero, zero-sub, suc-sub-suc, add-sub-cancel-left}
 use native.Mathlib.Omega.{arith}
-use lib.ListN.{length, getD, take, drop, replicate, drop-of-length-le, length-append, length-drop, length-replicate, getD-replicate, List·getD-append}
+use lib.ListN.{length, getD, take, drop, replicate, drop-of-length-le, length-append, length-drop, length-replicate, getD-replicate, take-append-drop, List·getD-append}
 use lib.Seq.{ext-getD, take-add, length-take-le, take-at, take-all, take-take, take-length, take-append-le, take-nil, drop-drop, drop-at, drop-append-le, drop-append-add, getD-take, getD-drop, getD-append-add, sets, sets-eq}
 
 module _ {A : Type 0} where
@@ -135,6 +135,11 @@ module _ {A : Type 0} where
       ap (λ (n : ℕ). drop n ((take at d ++ s) ++ drop k d)) b ∙ drop-append-add (take at d ++ s) (drop k d) (length t) ∙ drop-drop (length t) k d in
       let f : at + length (s ++ t) ≡ k + length t = rw (length-append s t) (omega arith) in
       rw (a, take-at (take at d ++ s) (drop k d) k l, c, f, append-assoc (take at d) s (t ++ drop (k + length t) d), append-assoc s t (drop (k + length t) d))
+
+  -- a part put back as it was
+  pub splice-own : (d : List A) (at n : ℕ) → at + n ≤ length d → splice d at (part d at n) ≡ d
+  unfolding part
+  splice-own d at n h = sym (lent-back d at n (part d at n) (length-part d at n h)) ∙ rw (take-append-drop n (drop at d), take-append-drop at d) refl
 
   -- a part that was lent and given back as x
   pub lent-filled : (m s x : List A) (at n : ℕ) → length s ≡ n → s ≡ x → take at m ++ (s ++ drop n (drop at m)) ≡ splice m at x
