@@ -1,5 +1,5 @@
 /* Requests whatever their header: a control code, the lowest level that may do it, a body, and the return code where no level denies it,
-   all by document 01 and section 10 of 001. And the two headers that they can be put behind. */
+   all by document 01, W-202 and section 10 of 001. And the two headers that they can be put behind. */
 #ifndef ASKED_H
 #define ASKED_H
 
@@ -39,7 +39,7 @@ static const struct asked GRANTED[GRANTS] = {
     [PHY_INFO] = {"phy info", 20, 1, 2052, 0, {0}},
     [SET_PHY_INFO] = {"set phy info", 21, 3, 8, 0, {0, 0, 0, 8, 2}},
     [LINK_ERRORS] = {"link errors", 22, 1, 20, 0, {0, 0}},
-    [CLEAR] = {"link errors, cleared", 22, 1, 20, 0, {0, 1}},
+    [CLEAR] = {"link errors, cleared", 22, 3, 20, 0, {0, 1}},
     [WRITE] = {"write", 25, 3, STP_SIZE, 0, DISK_0(0x30)},
     [READ] = {"read", 25, 1, STP_SIZE, 0, DISK_0(0x20)},
     [IDENTIFY] = {"identify", 25, 1, STP_SIZE, 0, DISK_0(0xEC)},
@@ -60,7 +60,8 @@ static const struct asked REFUSED[] = {
     {"set phy info: programmed byte", 21, 3, 8, 2001, {0, 0, 7}},
     {"set phy info: inverted", 21, 3, 8, 2001, {0, 0, 9, 8}},
     {"link errors: reset byte", 22, 1, 20, 3, {0, 2}},
-    {"link errors: no such phy", 22, 1, 20, 2002, {4, 1}},
+    {"link errors: no such phy", 22, 1, 20, 2002, {4, 0}},
+    {"link errors, cleared: no such phy", 22, 3, 20, 2002, {4, 1}},
     {"signature: no such phy", 26, 1, 24, 2002, {4}},
     {"signature: no SATA", 26, 1, 24, 2009, {2}},
     {"signature: none held", 26, 1, 24, 2010, {1}},

@@ -1,6 +1,6 @@
 /* Sessions with requests under both headers, ascheknopf_run_both: lines and replies, the same as by calls one by one, and the same as by
-   ascheknopf_run where all have the first header. What is expected was written down from W-201, document 01, the header file and the
-   descriptions of the samples. Runs in the repository's root. */
+   ascheknopf_run where all have the first header. What is expected was written down from W-201, W-202, document 01, the header file and
+   the descriptions of the samples. Runs in the repository's root. */
 #define PROGRAM "both.c"
 #include "both.h"
 
@@ -24,7 +24,7 @@ static void lines(const char *text, const uint32_t codes[REQUESTS])
     for (size_t n = 1; n <= REQUESTS; n++)
         same = same && memcmp(run.session + place(n), before.session + place(n), BEFORE) == 0;
     check("the three numbers stay", same);
-    check("short requests stay", memcmp(reply(13), before.session + place(13) + BEFORE, place(15) - place(13) - BEFORE) == 0);
+    check("short requests stay", memcmp(reply(14), before.session + place(14) + BEFORE, place(16) - place(14) - BEFORE) == 0);
     check("the sector", all(run.medium + 5 * SECTOR, SECTOR, FILL) && all(run.medium, 5 * SECTOR, 0)
                         && all(run.medium + 6 * SECTOR, sizeof run.medium - 6 * SECTOR, 0));
 }
@@ -36,10 +36,11 @@ static void replies(void)
     check("phy info, the change denied", memcmp(reply(4) + FIRST + 4, run.file + 512, 64) == 0);
     const uint8_t *entity = reply(6) + FIRST + 4;
     check("phy info, changed", entity[21] == 2 && entity[29] == 8 && entity[30] == 0x88 && entity[31] == 0x89);
-    check("link errors, cleared", word(reply(7) + LINUX + 4) == 3 && word(reply(7) + LINUX + 12) == 1);
-    check("link errors, none left", all(reply(8) + FIRST + 4, 16, 0));
-    check("a read, the write denied", word(reply(10) + FIRST + 132) == SECTOR && all(reply(10) + FIRST + 136, SECTOR, 0));
-    check("a read, written", word(reply(12) + FIRST + 132) == SECTOR && all(reply(12) + FIRST + 136, SECTOR, FILL));
+    check("link errors, the reset denied", memcmp(reply(7) + FIRST, before.session + place(7) + BEFORE + FIRST, 20) == 0);
+    check("link errors, not yet cleared", word(reply(8) + LINUX + 4) == 3 && word(reply(8) + LINUX + 12) == 1);
+    check("link errors, none left", all(reply(9) + FIRST + 4, 16, 0));
+    check("a read, the write denied", word(reply(11) + FIRST + 132) == SECTOR && all(reply(11) + FIRST + 136, SECTOR, 0));
+    check("a read, written", word(reply(13) + FIRST + 132) == SECTOR && all(reply(13) + FIRST + 136, SECTOR, FILL));
 }
 
 /* Request n by the call of its header, in place, and its line. */
@@ -162,10 +163,10 @@ int main(void)
 {
     const char *texts[6] = {"CSMI=None;", RESTRICTED, "CSMI=Limited;", FULL, "", "CSMI=full;"};
     const char *samples[3] = {"good", "writes", "refusals"};
-    /* requests 2, 5, 7, 11, 13, 15, 16 and 18 have the Linux header */
-    const uint32_t none[REQUESTS] = {4, 0, 4, 4, 0, 4, 0, 4, 4, 4, 0, 4, NONE, NONE, 3, 2, 3, 3};
-    const uint32_t low[REQUESTS] = {0, 0, 4, 0, 0, 0, 0, 0, 4, 0, 0, 0, NONE, NONE, 3, 2, 3, 3};
-    const uint32_t full[REQUESTS] = {0, 0, 0, 0, 0, 0, 0, 0, 0, 0, 0, 0, NONE, NONE, 3, 2, 3, 3};
+    /* requests 2, 5, 8, 12, 14, 16, 17 and 19 have the Linux header */
+    const uint32_t none[REQUESTS] = {4, 0, 4, 4, 0, 4, 4, 0, 4, 4, 4, 0, 4, NONE, NONE, 3, 2, 3, 3};
+    const uint32_t low[REQUESTS] = {0, 0, 4, 0, 0, 0, 4, 0, 0, 4, 0, 0, 0, NONE, NONE, 3, 2, 3, 3};
+    const uint32_t full[REQUESTS] = {0, 0, 0, 0, 0, 0, 0, 0, 0, 0, 0, 0, 0, NONE, NONE, 3, 2, 3, 3};
 
     make_mixed();
     places();

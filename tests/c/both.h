@@ -54,7 +54,7 @@ static inline uint8_t *add_linux(int i)
 }
 
 /* Both kinds in turn, on the adapter of samples/good. */
-enum { REQUESTS = 18 };
+enum { REQUESTS = 19 };
 static struct run mixed;
 
 static inline void make_mixed(void)
@@ -67,6 +67,7 @@ static inline void make_mixed(void)
     add_first(PHY_INFO);
     add_linux(SET_PHY_INFO);
     add_first(PHY_INFO);
+    add_first(CLEAR);
     add_linux(CLEAR);
     add_first(LINK_ERRORS);
     add_first(WRITE);

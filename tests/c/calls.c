@@ -1,5 +1,5 @@
 /* The two calls of include/ascheknopf.h: an opening, requests one at a time, and refusals that touch nothing. What is expected was written
-   down from document 01 and the description of samples/good. Runs in the repository's root. */
+   down from document 01, W-202 and the description of samples/good. Runs in the repository's root. */
 #define PROGRAM "calls.c"
 #include "lent.h"
 
@@ -163,6 +163,8 @@ static void levels(void)
         request(21, 8)[4] = 1;
         denied(level);
         command(0x30);
+        denied(level);
+        request(22, 20)[1] = 1;
         denied(level);
     }
     request(1, 174);

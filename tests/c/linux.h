@@ -1,4 +1,4 @@
-/* One request under the Linux header, for the programs that test it. */
+/* One request under the Linux header, for the programs that test it; and the same under the first header beside it. */
 #ifndef LINUX_H
 #define LINUX_H
 
@@ -34,6 +34,14 @@ static inline uint32_t handled(void)
 {
     before = lent;
     return ascheknopf_request_linux(lent.state, lent.state_len, lent.medium, lent.medium_len, control, lent.buffer, lent.buffer_len);
+}
+
+/* The same request under the first header. */
+static inline uint32_t handled_first(const struct asked *a)
+{
+    lent.buffer_len = put_first(a, 0, lent.buffer);
+    before = lent;
+    return ascheknopf_request(lent.state, lent.state_len, lent.medium, lent.medium_len, lent.buffer, lent.buffer_len);
 }
 
 /* The call's number is this one, and nothing is touched. */

@@ -1,6 +1,6 @@
 /* Requests under the Linux header that pass its checks: every code at every level, beside what the first header denies there; and that they
-   get what the first header gets at Full. What is expected was written down from W-201, document 01 and the descriptions of the samples.
-   Runs in the repository's root. */
+   get what the first header gets at Full. What is expected was written down from W-201, W-202, document 01 and the descriptions of the
+   samples. Runs in the repository's root. */
 #define PROGRAM "linux_served.c"
 #include "linux.h"
 
@@ -95,9 +95,7 @@ static void commands(void)
 static void first_header(const struct asked *a, int level)
 {
     lent = sound;
-    lent.buffer_len = put_first(a, 0, lent.buffer);
-    before = lent;
-    uint32_t number = ascheknopf_request(lent.state, lent.state_len, lent.medium, lent.medium_len, lent.buffer, lent.buffer_len);
+    uint32_t number = handled_first(a);
     uint32_t code = word(lent.buffer + FIRST_CODE);
     memcpy(lent.buffer + FIRST_CODE, before.buffer + FIRST_CODE, 4);
     int right = level < a->need ? code == 4 && untouched() : code == a->code;

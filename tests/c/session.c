@@ -1,4 +1,4 @@
-/* The samples and damaged input through ascheknopf_run. What is expected was written down from document 01 and the samples'
+/* The samples and damaged input through ascheknopf_run. What is expected was written down from document 01, W-202 and the samples'
    descriptions, the return codes by section 10 of 001. Runs in the repository's root. */
 #define PROGRAM "session.c"
 #include "run.h"
@@ -138,7 +138,7 @@ static void null_pointers(void)
 int main(void)
 {
     const uint32_t good[12] = {0};
-    const uint32_t low[12] = {0, 0, 4, 4, 0, 0, 4, 4, 0, 4, 2002, 0};
+    const uint32_t low[12] = {0, 0, 4, 4, 0, 0, 4, 4, 0, 4, 2002, 4};
     const uint32_t high[12] = {0, 0, 0, 0, 0, 2008, 0, 0, 2008, 2002, 2002, 0};
     /* Document 01's example is in it: a sound code 1, a 5-byte buffer, and as the fifth a sound code 21. */
     const uint32_t refusals[16] = {0, NONE, 2, 3, 4, 4, 4, 2002, 2003, 2005, 2006, 2008, 2009, 2010, 2013, 2014};
@@ -147,8 +147,10 @@ int main(void)
     replies();
     sample("writes", RESTRICTED, 12, low, 0);
     check("a read after a denied write", status_is(body(5), 1, SECTOR) && all(body(5) + 136, SECTOR, 0));
+    check("a denied reset of counters", all(body(12) + 4, 16, 0));
     sample("writes", FULL, 12, high, 0x5A);
     check("a read after a write", status_is(body(5), 1, SECTOR) && all(body(5) + 136, SECTOR, 0x5A));
+    check("a reset of counters", word(body(12) + 4) == 3 && word(body(12) + 12) == 1);
     sample("refusals", RESTRICTED, 16, refusals, 0);
     damaged_openings();
     damaged_sessions();

@@ -1,7 +1,7 @@
 //! Numbers and offsets: the model's, the library's prefixes and lines of a session, and what the comparison has besides.
 
 pub use library::{prefix, record};
-pub use model::codes::{ata, device, direction, fis_type, rate, status, NOT_GIVEN};
+pub use model::codes::{ata, device, direction, fis_type, link_error, rate, status, NOT_GIVEN};
 pub use model::layout::{
     device_address, file, fis, header, link_errors, linux_header, phy_info, row, sata_signature,
     scsi_address, set_phy_info, state, stp, DISK, DRIVER_INFO, ENTITY, MAX_PHYS, MAX_ROWS, SECTOR,

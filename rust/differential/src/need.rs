@@ -1,8 +1,11 @@
-//! Which requests document 01 calls denied, and which granted.
+//! Which requests document 01 calls denied, and which granted; the need of code 22 is W-202's.
 
 use crate::case::Exchange;
 use crate::names::direction::{DATA_READ, DATA_WRITE};
-use crate::names::{body_size, call, code, header as first, linux_header, signature, status, stp};
+use crate::names::link_error::RESET_COUNTS;
+use crate::names::{
+    body_size, call, code, header as first, link_errors, linux_header, signature, status, stp,
+};
 use crate::request::{fis, Header};
 use crate::text::{FULL, LIMITED, RESTRICTED};
 use crate::wire::word;
@@ -29,6 +32,7 @@ fn of_command(command: u8) -> u8 {
 fn of_request(control: u32, body: &[u8]) -> u8 {
     match control {
         code::SET_PHY_INFO => FULL,
+        code::LINK_ERRORS if body[link_errors::RESET] == RESET_COUNTS => FULL,
         code::STP_PASSTHRU => of_command(body[stp::COMMAND_FIS + fis::COMMAND]),
         _ => RESTRICTED,
     }

@@ -1,5 +1,5 @@
 //! "Two runs": the higher run's list is the lower's without the requests denied there. The replies to the others, the media and
-//! the states but the level are then equal.
+//! the states but the level are then equal. So they are below Full without any request of the first header: it writes nothing there (W-202).
 
 use crate::case::{Case, Exchange, Outcome};
 use crate::names::{call, state, status};
@@ -68,25 +68,44 @@ pub fn check(side: Side, start: &Start, low: &Level, high: &Level) -> Result<usi
         .partition(|one| lower.accepted() && need::denied(low.number, one.header, one.request));
     denied.iter().try_for_each(|one| only_return_code(one))?;
 
-    let list: Vec<Request> = others.iter().map(|one| one.sent()).collect();
-    let higher = Run::of(side, start, high, &list)?;
-    for (n, (one, other)) in others.iter().zip(higher.exchanges()).enumerate() {
+    same_by_part(side, start, high, &lower, &others)?;
+    Ok(denied.len())
+}
+
+/// "Read-only": in a run below Full the Linux requests alone get the same replies and leave the same.
+pub fn check_read_only(side: Side, start: &Start, level: &Level) -> Result<(), String> {
+    let whole = Run::of(side, start, level, start.requests)?;
+    let answers = whole.exchanges();
+    let linux: Vec<&Exchange> = answers.iter().filter(|one| one.header.is_linux()).collect();
+    same_by_part(side, start, level, &whole, &linux)
+}
+
+/// A run at this level of a part of the requests of another: they get the same replies, and it leaves the same.
+fn same_by_part(
+    side: Side,
+    start: &Start,
+    level: &Level,
+    whole: &Run,
+    part: &[&Exchange],
+) -> Result<(), String> {
+    let list: Vec<Request> = part.iter().map(|one| one.sent()).collect();
+    let run = Run::of(side, start, level, &list)?;
+    for (n, (one, other)) in part.iter().zip(run.exchanges()).enumerate() {
         if one.number != other.number || one.code != other.code || one.reply != other.reply {
             return Err(format!("reply {} differs", n + 1));
         }
     }
-    equal_ends(&lower.outcome, &higher.outcome)?;
-    Ok(denied.len())
+    equal_ends(&whole.outcome, &run.outcome)
 }
 
-fn equal_ends(lower: &Outcome, higher: &Outcome) -> Result<(), String> {
-    if lower.opening != higher.opening {
+fn equal_ends(one: &Outcome, other: &Outcome) -> Result<(), String> {
+    if one.opening != other.opening {
         return Err("the openings differ".to_string());
     }
-    if lower.medium != higher.medium {
+    if one.medium != other.medium {
         return Err("the media differ".to_string());
     }
-    if lower.state.as_deref().map(but_level) != higher.state.as_deref().map(but_level) {
+    if one.state.as_deref().map(but_level) != other.state.as_deref().map(but_level) {
         return Err("the states differ".to_string());
     }
     Ok(())

@@ -8,7 +8,9 @@ use differential::random::Random;
 use differential::request::{any_code, first, Request};
 use differential::session::Framing;
 use differential::side::{CALLS, SIDES};
-use differential::two_runs::{check, check_denied, check_each, only_return_code, Level, Start};
+use differential::two_runs::{
+    check, check_denied, check_each, check_read_only, only_return_code, Level, Start,
+};
 use differential::{generate, last_writer, text};
 
 /// Every pair of levels, the lower at most the higher.
@@ -110,6 +112,39 @@ fn denied_requests_change_only_their_return_code() {
             }
         }
     }
+}
+
+/// Below Full the first header writes nothing: a run leaves what its Linux requests alone leave, on every side. At Full it is not so.
+#[test]
+fn below_full_the_first_header_leaves_no_trace() {
+    let mut traces = 0;
+    for seed in 0..120 {
+        let random = &mut Random::new(seed);
+        let adapter = Adapter::sound(random);
+        let (file, medium) = file_and_medium(random, &adapter);
+        let framing = random.pick(&[Framing::First, Framing::Both]);
+        let start = Start {
+            seed,
+            file: &file,
+            medium: &medium,
+            requests: &generate::requests_of(random, &adapter, 60, framing),
+        };
+        for level in text::LEVELS.map(|number| Level::of_number(random, number)) {
+            for side in SIDES {
+                let left = check_read_only(side, &start, &level);
+                if level.number < text::FULL {
+                    assert_eq!(
+                        left,
+                        Ok(()),
+                        "seed {seed}, level {}, {side:?}",
+                        level.number
+                    );
+                }
+                traces += usize::from(left.is_err());
+            }
+        }
+    }
+    assert!(traces > 200, "only {traces} runs at Full left a trace");
 }
 
 fn the_last_writer_of_each_sector_and_rate(framing: Framing) {

@@ -56,7 +56,7 @@ fn every_command(seed: u64, level: u8) -> Case {
 }
 
 /// Over 60,000 requests over thousands of adapters, texts and openings; each number and return code of the documents is met, with each
-/// code that can give it, with the Linux header at each level, and none besides.
+/// code that can give it, with the Linux header at each level, of code 22 with each kind of reset byte at each level, and none besides.
 #[test]
 fn random_runs_agree_and_meet_everything() {
     let mut coverage = Coverage::default();

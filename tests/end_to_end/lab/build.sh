@@ -52,7 +52,7 @@ removed_source() {
 linked() {
     ln -s "$tree/lab" "$work/absolute" && ln -s absolute "$work/relative"
     (cd / && "$work/relative" "$tree/samples/writes") >"$work/printed" 2>"$work/errors"
-    [ $? -eq 1 ] && diff /dev/null "$work/errors" && grep -q '^mark: 8 of 12 differ' "$work/printed"
+    [ $? -eq 1 ] && diff /dev/null "$work/errors" && grep -q '^mark: 9 of 12 differ' "$work/printed"
 }
 does_not_prove() {
     touch "$work/broken" "$tree/crates/wire/src/lib.rt"
@@ -85,7 +85,7 @@ no_tool() {
 edited_copy() {
     local dir=$work/copy
     cp -r samples/writes "$dir" && sed -i '/command=30h/d' "$dir/session.txt"
-    marks 1 "mark: 6 of 11 differ, 4 denied low" "$dir" && grep -qF 'session.txt is run, and session beside it, which is not what it describes, is not' "$work/printed"
+    marks 1 "mark: 7 of 11 differ, 5 denied low" "$dir" && grep -qF 'session.txt is run, and session beside it, which is not what it describes, is not' "$work/printed"
 }
 edited_adapter() {
     local dir=$work/copy
@@ -100,7 +100,7 @@ newer_binary() {
 binaries_alone() {
     local dir=$work/binaries
     mkdir "$dir" && cp samples/writes/{adapter.bin,session,low.txt,high.txt} "$dir/"
-    marks 1 "mark: 8 of 12 differ" "$dir" && grep -q '^session   session, 12 requests$' "$work/printed"
+    marks 1 "mark: 9 of 12 differ" "$dir" && grep -q '^session   session, 12 requests$' "$work/printed"
 }
 try "the first build shows what it does" first_build
 try "what is fresh is not made again" no_build 1

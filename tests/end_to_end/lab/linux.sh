@@ -50,10 +50,14 @@ try "its warning" marks 1 "warning requests 2 and 4 have the Linux header and ru
 try "the line of its write" marks 1 " 2 linux stp-passthru phy 0: write LBA 3 count 1 0 success; ATA 50h 00h success 0 success; ATA 50h 00h success runs as Full; denied low under the first header" "$dir"
 try "the line of its read" marks 1 " 3 linux stp-passthru phy 0: read LBA 3 count 1 0 success; ATA 50h 00h success 0 success; ATA 50h 00h success" "$dir"
 try "it has no trial" unmarked "tried:" "$dir"
-dir=$(with linux_reads session.txt "linux get-phy-info\nlinux get-link-errors phy=0 reset=1\n$read_disk\n")
+dir=$(with linux_reads session.txt "linux get-phy-info\nlinux get-link-errors phy=0\n$read_disk\n")
 try "a Linux console that reads" marks 0 "mark: 0 of 3 differ, 0 denied low, 0 Linux requests above the low level; what they left is the same" "$dir"
 try "it has no warning" unmarked warning "$dir"
 try "all levels of one that reads" marks 1 "mark: 0 of 3 differ, denied: 0 None, 0 Restricted, 0 Limited, 0 Full, Linux requests above the level: 3 None, 0 Restricted, 0 Limited, 0 Full; what they left is the same" --levels "$dir"
+dir=$(with linux_clears session.txt "linux get-phy-info\nlinux get-link-errors phy=0 reset=1\nlinux get-link-errors phy=0 reset=2\n")
+try "a Linux console that clears counters" marks 1 "mark: 0 of 3 differ, 0 denied low, 1 Linux request above the low level; what they left is the same" "$dir"
+try "the line of its reset" marks 1 " 2 linux get-link-errors phy 0, reset 0 success 0 success runs as Full; denied low under the first header" "$dir"
+try "all levels of one that clears counters" marks 1 "Linux requests above the level: 3 None, 1 Restricted, 1 Limited, 0 Full; what they left is the same" --levels "$dir"
 try "sessions without Linux requests say nothing of it" unmarked Linux samples/writes
 dir=$(with linux_one session.txt "linux set-phy-info phy=9\n")
 try "a change of a phy that does not exist" marks 1 "warning request 1 has the Linux header and runs as Full in both runs; under the first header it is denied low" "$dir"

@@ -30,11 +30,22 @@ levels() {
 }
 
 # 1: whole replies, and what the runs left
-try "the mark counts a reply whose code is the same" marks 1 "mark: 8 of 12 differ, 5 denied low; 4 values and 1 sector left differ" samples/writes
+try "the mark counts a reply whose code is the same" marks 1 "mark: 9 of 12 differ, 6 denied low; 6 values and 1 sector left differ" samples/writes
 try "the data of that reply, with both values" marks 1 " data, 512 bytes 00*512 5A*512" samples/writes
-dir=$(levels counters "CSMI=None;" "CSMI=Restricted;") && echo "get-link-errors phy=0 reset=1" >"$dir/session.txt"
+resets="get-link-errors phy=0 reset=1\nget-link-errors phy=0\nget-link-errors phy=9 reset=1\nget-link-errors phy=0 reset=2\n"
+dir=$(with counters session.txt "$resets")
 try "counters left, with both values" marks 1 " phy 0 invalid-dword 3 0" "$dir"
 try "the rest is the same" marks 1 "programmed rates: the same" "$dir"
+try "clearing counters is a write" marks 1 "mark: 3 of 4 differ, 2 denied low; 2 values and 0 sectors left differ" "$dir"
+try "its line" marks 1 " 1 get-link-errors phy 0, reset 4 denied, write attempted 0 success differs" "$dir"
+try "a later reply shows them, with both values" marks 1 " loss-of-sync 1 0" "$dir"
+try "a phy that is not there is denied too" marks 1 " 3 get-link-errors phy 9, reset 4 denied, write attempted 2002 phy does not exist differs" "$dir"
+try "another reset byte is no reset" marks 1 " 4 get-link-errors phy 0, reset 2 3 invalid parameter 3 invalid parameter" "$dir"
+try "the denied resets are the difference" marks 1 "tried: without the 2 requests denied low, the high run gets the replies of the low run" "$dir"
+dir=$(levels counters_limited "CSMI=Limited;" "CSMI=Full;") && printf '%b' "$resets" >"$dir/session.txt"
+try "Limited is not enough for a reset" marks 1 "mark: 3 of 4 differ, 2 denied low; 2 values and 0 sectors left differ" "$dir"
+dir=$(levels counters_both "CSMI=Restricted;" "CSMI=Limited;") && printf '%b' "$resets" >"$dir/session.txt"
+try "a reset that both levels deny" marks 0 "mark: 0 of 4 differ, 2 denied low; what they left is the same" "$dir"
 dir=$(with answers session.txt "get-phy-info\nset-phy-info phy=1 maximum=8 class=2\nget-phy-info\n")
 try "fields of a reply, with both values" marks 1 " phy 1 class 0 2" "$dir"
 try "a rate of a reply in words" marks 1 " phy 1 programmed-maximum 9 (3.0 Gb/s) 8 (1.5 Gb/s)" "$dir"

@@ -43,7 +43,7 @@ assert sum(request["differs"] for request in sheet["requests"]) == int(sys.argv[
 END
 }
 if command -v python3 >/dev/null; then
-    try "JSON and CSV as python reads them" python_reads samples/writes 8
+    try "JSON and CSV as python reads them" python_reads samples/writes 9
     mkdir -p "$work/odd, \"name\"" && cp samples/good/*.txt "$work/odd, \"name\""
     try "JSON and CSV of an odd name" python_reads "$work/odd, \"name\"" 0
 else
@@ -77,7 +77,7 @@ as_the_program() {
 }
 codes_compared() {
     "$kit" compare "$work/replies/requests" "$work/replies/low.codes" "$work/replies/high.codes" >"$work/printed" &&
-        diff <(echo "codes: 7 of 12 differ, 5 denied low") <(tail -n 1 "$work/printed")
+        diff <(echo "codes: 8 of 12 differ, 6 denied low") <(tail -n 1 "$work/printed")
 }
 try "--replies, and labkit reply on them" replies
 try "the program prints the codes that the lab has" as_the_program
@@ -91,7 +91,7 @@ dir=$(exercise many) && cp samples/writes/adapter.txt "$dir/" && grep -v '^#' sa
 awk -v file="$work/script" 'BEGIN { while ((getline line < file) > 0) script[n++] = line; for (i = 0; i < 200000; i++) print script[i % n] }' >"$dir/session.txt"
 in_seconds() {
     local start=$SECONDS
-    marks 1 "mark: 150000 of 200000 differ, 83334 denied low" "$@" && [ $((SECONDS - start)) -lt 30 ]
+    marks 1 "mark: 166666 of 200000 differ, 100000 denied low" "$@" && [ $((SECONDS - start)) -lt 30 ]
 }
 try "200,000 requests in seconds" in_seconds "$dir"
 try "no progress without a terminal" diff /dev/null "$work/errors"
@@ -106,6 +106,14 @@ else
 fi
 rm -r "$dir"
 
+# What docs/LAB.md and README.md show of samples/writes is what it prints: the mark, and in docs/LAB.md what the runs left.
+writes_in_documents() {
+    local mark
+    mark="    $(tail -n 1 "$here/lab/writes.out")"
+    grep -qxF "$mark" docs/LAB.md && grep -qxF "$mark" README.md &&
+        ! sed -n '/^    left by the runs/,/^The mark:/s/^    //p' docs/LAB.md | grep . | grep -vxFf "$here/lab/writes.out"
+}
+try "samples/writes in docs/LAB.md and README.md" writes_in_documents
 # The exercise that docs/LAB.md writes by hand has the mark that stands there.
 by_hand() {
     local folder=$work/hand

@@ -17,7 +17,7 @@ both_runs() {
         has 1 '<td class="request">stp-passthru phy 1: command E8h</td><td class="answer">4 denied, write attempted</td><td class="answer">0 success; ATA 51h 04h error, aborted</td>'
 }
 marked() {
-    has 8 '<tr class="differs"><td class="number">[0-9]*</td><td class="request">' && has 4 '<tr class="same"><td class="number">[0-9]*</td><td class="request">'
+    has 9 '<tr class="differs"><td class="number">[0-9]*</td><td class="request">' && has 3 '<tr class="same"><td class="number">[0-9]*</td><td class="request">'
 }
 both_values() {
     has 1 '<tr class="detail">.*data, 512 bytes</td><td class="value">00\*512</td><td class="value">5A\*512</td>' &&
@@ -25,6 +25,7 @@ both_values() {
 }
 counters_and_sectors() {
     has 1 '<h2>Counters</h2>' && has 4 '<td class="what">reset-problem</td><td class="value">0</td><td class="value">0</td>' &&
+        has 1 '<td class="what">invalid-dword</td><td class="value">3</td><td class="value">0</td>' &&
         has 1 '<h2>Sectors that a run changed</h2>' &&
         has 1 'phy 0 LBA 3, 512 bytes</td><td class="value">00\*512</td><td class="value">00\*512</td><td class="value">5A\*512</td><td class="word">differs</td>'
 }
@@ -39,7 +40,7 @@ without_a_mark() {
 }
 try "--html" make_page
 try "the page needs nothing from elsewhere, and is made for print" self_contained
-try "the page has the mark" has 1 '<p class="mark">mark: 8 of 12 differ, 5 denied low; 4 values and 1 sector left differ</p>'
+try "the page has the mark" has 1 '<p class="mark">mark: 9 of 12 differ, 6 denied low; 6 values and 1 sector left differ</p>'
 try "the page has both runs" both_runs
 try "the page marks what differs" marked
 try "the page has both values" both_values
@@ -71,7 +72,7 @@ opened() {
         ;;
     *)
         HOME=$home timeout 60 "$1" --headless --no-sandbox --disable-gpu --disable-dev-shm-usage --dump-dom "$url" >"$work/dom" &&
-            grep -q 'mark: 8 of 12 differ, 5 denied low' "$work/dom" && [ "$(grep -c '<tr class="differs"><td class="number">[0-9]*</td><td class="request">' "$work/dom")" -eq 8 ] &&
+            grep -q 'mark: 9 of 12 differ, 6 denied low' "$work/dom" && [ "$(grep -c '<tr class="differs"><td class="number">[0-9]*</td><td class="request">' "$work/dom")" -eq 9 ] &&
             HOME=$home timeout 60 "$1" --headless --no-sandbox --disable-gpu --disable-dev-shm-usage --print-to-pdf="$work/page.pdf" "$url" && [ "$(head -c 4 "$work/page.pdf")" = %PDF ]
         ;;
     esac

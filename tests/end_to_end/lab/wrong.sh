@@ -61,11 +61,11 @@ try "byte order marks and CRLF in descriptions" marks 0 "mark: 0 of 12 differ" "
 
 # names and folders
 mkdir "$work/an exercise" && cp samples/writes/*.txt "$work/an exercise/"
-try "a name with a space" marks 1 "mark: 8 of 12 differ" "$work/an exercise"
-try "a slash behind it" marks 1 "mark: 8 of 12 differ" "$work/an exercise/"
+try "a name with a space" marks 1 "mark: 9 of 12 differ" "$work/an exercise"
+try "a slash behind it" marks 1 "mark: 9 of 12 differ" "$work/an exercise/"
 mkdir "$work/$(printf 'two\nlines\377')"
 try "a name of two lines that is not UTF-8" lab_refuses "$work/two?lines�/low.txt is missing; it holds a level text, such as CSMI=Restricted;" "$work/$(printf 'two\nlines\377')"
-try "a name like an option" marks 1 "mark: 8 of 12 differ" -- "$(mkdir "$work/-x" && cp samples/writes/*.txt "$work/-x/" && echo "$work/-x")"
+try "a name like an option" marks 1 "mark: 9 of 12 differ" -- "$(mkdir "$work/-x" && cp samples/writes/*.txt "$work/-x/" && echo "$work/-x")"
 elsewhere() {
     (cd "$work" && "$lab" "an exercise" >printed 2>errors; [ $? -eq 1 ] && diff /dev/null errors && grep -q '^exercise  an exercise$' printed)
 }
@@ -83,7 +83,7 @@ as_user() {
 read_only() {
     chmod -R a-w "$1"
     as_user "$lab" "$1" >"$work/printed" 2>"$work/errors"
-    [ $? -eq 1 ] && diff /dev/null "$work/errors" && grep -q '^mark: 8 of 12 differ' "$work/printed"
+    [ $? -eq 1 ] && diff /dev/null "$work/errors" && grep -q '^mark: 9 of 12 differ' "$work/printed"
 }
 page_into() {
     refuses 2 "lab: $1/page.html cannot be written: Permission denied (os error 13)" as_user "$lab" --html "$1/page.html" "$1"

@@ -1,13 +1,15 @@
-//! How often each number, return code and command was met, with the first header, and with the Linux header at each level; and which of
-//! those that the documents know were not.
+//! How often each number, return code and command was met, with the first header, and with the Linux header at each level; code 22 by its
+//! reset byte too; and which of those that the documents know were not.
 
 pub mod known;
+pub mod link_errors;
 mod met;
 
 use crate::case::{Case, Outcome};
 use crate::names::{call, state};
 use crate::request::Header;
 use known::Kind;
+use link_errors::LinkErrors;
 use met::Met;
 use std::collections::BTreeMap;
 use std::fmt;
@@ -17,6 +19,7 @@ pub struct Coverage {
     pub requests: u64,
     openings: BTreeMap<u32, u64>,
     kinds: BTreeMap<Kind, Met>,
+    link_errors: LinkErrors,
 }
 
 impl Coverage {
@@ -35,6 +38,7 @@ impl Coverage {
                 Header::Linux { .. } => Kind::Linux(state[state::LEVEL]),
             };
             self.kinds.entry(kind).or_default().count(&exchange);
+            self.link_errors.count(&exchange, state);
         }
     }
 
@@ -53,7 +57,10 @@ impl Coverage {
             let met = self.kinds.get(&kind).unwrap_or(&none);
             of_kind(kind, met.missing(kind))
         });
-        openings.chain(of_kinds).collect()
+        openings
+            .chain(of_kinds)
+            .chain(self.link_errors.missing())
+            .collect()
     }
 
     /// What was met and is unknown to the documents.
@@ -67,7 +74,10 @@ impl Coverage {
             .kinds
             .iter()
             .flat_map(|(&kind, met)| of_kind(kind, met.unknown(kind)));
-        openings.chain(of_kinds).collect()
+        openings
+            .chain(of_kinds)
+            .chain(self.link_errors.unknown())
+            .collect()
     }
 }
 
@@ -82,7 +92,7 @@ impl fmt::Display for Coverage {
         for (kind, met) in &self.kinds {
             write!(f, "\n{kind:?}\n{met}")?;
         }
-        Ok(())
+        write!(f, "\n{}", self.link_errors)
     }
 }
 

@@ -2,6 +2,7 @@
 
 use super::passthrough::Passthrough;
 use crate::adapter::Adapter;
+use crate::names::link_error::{DONT_RESET_COUNTS, RESET_COUNTS};
 use crate::names::row::OS;
 use crate::names::{
     body_size, code, device_address, link_errors, sata_signature, scsi_address, set_phy_info as at,
@@ -17,7 +18,7 @@ pub fn body(random: &mut Random, adapter: &Adapter, control: u32) -> Vec<u8> {
         code::SET_PHY_INFO => set_phy_info(random, adapter, &mut body),
         code::LINK_ERRORS => {
             body[link_errors::PHY] = phy(random, adapter);
-            body[link_errors::RESET] = random.below(2) as u8;
+            body[link_errors::RESET] = random.pick(&[DONT_RESET_COUNTS, RESET_COUNTS]);
         }
         code::SATA_SIGNATURE => body[sata_signature::PHY] = phy(random, adapter),
         code::SCSI_ADDRESS => scsi_address(random, adapter, &mut body),

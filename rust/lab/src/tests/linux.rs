@@ -135,7 +135,7 @@ fn a_console_that_writes_is_not_taken_for_one_that_reads() {
     let mut seen = 0;
     for seed in 0..CASES {
         let mut exercise = exercise(seed, &[1, 3]);
-        let lines = "linux get-phy-info\nlinux set-phy-info phy=0\nlinux stp-passthru command=30h data=00*512\nlinux stp-passthru command=E8h\n";
+        let lines = "linux get-phy-info\nlinux set-phy-info phy=0\nlinux stp-passthru command=30h data=00*512\nlinux stp-passthru command=E8h\nlinux get-link-errors reset=1\nlinux get-link-errors reset=2\n";
         exercise.form = Form::Both;
         exercise.session.bytes = Form::Both.parse(lines).unwrap();
         let marking = Marking::of(&exercise, None).unwrap();
@@ -143,10 +143,10 @@ fn a_console_that_writes_is_not_taken_for_one_that_reads() {
             continue;
         }
         assert_eq!((marking.differing(), marking.denied(0)), (0, 0));
-        assert_eq!((marking.above(0), marking.above(1)), (3, 0));
+        assert_eq!((marking.above(0), marking.above(1)), (4, 0));
         assert_eq!(marking.status(), 1);
-        assert_eq!(marking.warnings.last().unwrap(), "requests 2, 3 and 4 have the Linux header and run as Full in both runs; under the first header they are denied low");
-        let mark = "mark: 0 of 4 differ, 0 denied low, 3 Linux requests above the low level; what they left is the same\n";
+        assert_eq!(marking.warnings.last().unwrap(), "requests 2, 3, 4 and 5 have the Linux header and run as Full in both runs; under the first header they are denied low");
+        let mark = "mark: 0 of 6 differ, 0 denied low, 4 Linux requests above the low level; what they left is the same\n";
         assert!(report::text(&marking).ends_with(mark));
         seen += 1;
     }

@@ -47,16 +47,21 @@ fn named(name: &str, control: u32, body: &[u8]) -> String {
     let byte = |at: usize| u32::from(body[at]);
     match control {
         21 => format!("{name} phy {}{}", byte(0), changes(body)),
-        22 => format!(
-            "{name} phy {}{}",
-            byte(0),
-            if byte(1) == 0 { "" } else { ", reset" }
-        ),
+        22 => format!("{name} phy {}{}", byte(0), reset(body)),
         STP_PASSTHRU => format!("{name} {}: {}{}", selected(body), command(body), rate(body)),
         26 => format!("{name} phy {}", byte(0)),
         27 => format!("{name} {}", show_bytes(&body[..8])),
         28 => format!("{name} {}/{}/{}/{}", byte(0), byte(1), byte(2), byte(3)),
         _ => name.to_string(),
+    }
+}
+
+/// The reset byte of a code 22: 1 clears the counters, and all others but 0 are refused.
+fn reset(body: &[u8]) -> String {
+    match body[1] {
+        0 => String::new(),
+        1 => ", reset".to_string(),
+        other => format!(", reset {other}"),
     }
 }
 
@@ -126,7 +131,9 @@ mod tests {
                 "set-phy-info phy 1, minimum 8",
             ),
             ("set-phy-info negotiated=1", "set-phy-info phy 0, disable"),
+            ("get-link-errors phy=2", "get-link-errors phy 2"),
             ("get-link-errors reset=1", "get-link-errors phy 0, reset"),
+            ("get-link-errors reset=2", "get-link-errors phy 0, reset 2"),
             (
                 "stp-passthru phy=1 command=30h lba=3 count=2",
                 "stp-passthru phy 1: write LBA 3 count 2",

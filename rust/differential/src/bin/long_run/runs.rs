@@ -7,7 +7,7 @@ use differential::coverage::Coverage;
 use differential::random::Random;
 use differential::session::Framing;
 use differential::side::{CALLS, SIDES};
-use differential::two_runs::{check, check_denied, check_each, Level, Start};
+use differential::two_runs::{check, check_denied, check_each, check_read_only, Level, Start};
 use differential::{generate, last_writer, sameness, text};
 
 /// The most requests of a case, the requests of a list, the bodies behind both headers.
@@ -58,6 +58,10 @@ impl Runs {
             let name = format!("seed {seed}, {side:?}");
             let denied = check(side, &start, &low, &high).map(drop);
             self.note(&format!("{name}, two runs"), denied);
+            if low.number < text::FULL {
+                let left = check_read_only(side, &start, &low);
+                self.note(&format!("{name}, read-only"), left);
+            }
             let rates = last_writer::check(&case, &side.run(&case)).map(drop);
             self.note(&format!("{name}, last writer"), rates);
         }
