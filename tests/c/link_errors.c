@@ -29,8 +29,8 @@ struct header {
     uint32_t (*handled)(const struct asked *a);
 };
 
-static const struct header UNDER_FIRST = {"the first header", FIRST, FIRST_CODE, handled_first};
-static const struct header UNDER_LINUX = {"the Linux header", LINUX, LINUX_CODE, handled_linux};
+static const struct header FIRST_HEADER = {"the first header", FIRST, FIRST_CODE, handled_first};
+static const struct header LINUX_HEADER = {"the Linux header", LINUX, LINUX_CODE, handled_linux};
 
 /* The return code is this one. With 0 the counters that the phy had are shown, and cleared by reset byte 1; else all bytes stay. */
 static int answered_with(const struct header *h, uint8_t phy, uint8_t reset, uint32_t code)
@@ -50,7 +50,7 @@ static int answered_with(const struct header *h, uint8_t phy, uint8_t reset, uin
 /* Phy 0 is asked again, without a reset and under the Linux header, which no level denies: these are its counters. */
 static int counters_are(const uint8_t *counters)
 {
-    return answered_with(&UNDER_LINUX, 0, 0, 0) && memcmp(lent.buffer + LINUX + SHOWN, counters, COUNTERS) == 0;
+    return answered_with(&LINUX_HEADER, 0, 0, 0) && memcmp(lent.buffer + LINUX + SHOWN, counters, COUNTERS) == 0;
 }
 
 static void reset_bytes(const struct header *h, int level, uint8_t phy)
@@ -59,7 +59,7 @@ static void reset_bytes(const struct header *h, int level, uint8_t phy)
     snprintf(name, sizeof name, "%s at level %d, phy %d, reset byte", h->what, level, phy);
     for (uint32_t reset = 0; reset < 256; reset++) {
         const uint32_t *codes = CODES[reset < 2 ? reset : 2][phy >= PHYS];
-        const uint32_t code = codes[h == &UNDER_LINUX ? 3 : level];
+        const uint32_t code = codes[h == &LINUX_HEADER ? 3 : level];
         lent = sound;
         int right = answered_with(h, phy, (uint8_t)reset, code);
         check_at(name, reset, right && counters_are(code == 0 && reset == 1 ? CLEARED : STANDING));
@@ -70,10 +70,10 @@ int main(void)
 {
     for (int level = 0; level < 4; level++) {
         open_sample("good", level);
-        reset_bytes(&UNDER_FIRST, level, 0);
-        reset_bytes(&UNDER_FIRST, level, PHYS);
-        reset_bytes(&UNDER_LINUX, level, 0);
-        reset_bytes(&UNDER_LINUX, level, PHYS);
+        reset_bytes(&FIRST_HEADER, level, 0);
+        reset_bytes(&FIRST_HEADER, level, PHYS);
+        reset_bytes(&LINUX_HEADER, level, 0);
+        reset_bytes(&LINUX_HEADER, level, PHYS);
     }
     return finish();
 }

@@ -9,16 +9,16 @@ use native.Mathlib.Decide.{ℕ-discrete}
 use lib.Dec.{eqb, ltb, leb}
 use lib.ListN.{length}
 use borrow.Author.Tests.{eq-eqb, ne-eqb, eqb-true, eqb-false, ltb-true, ltb-false}
-use Rattle.laws.specs.Choice.{by-bool, either, either-by, both-left, and-true, and-false}
+use Rattle.laws.specs.Choice.{by-bool, either, either-by, and-true, and-false}
 use Rattle.laws.specs.Splice.{part, splice, length-part, length-splice, part-splice, splice-own, part-below, part-above}
 use Rattle.codes.specs.Codes.{success, invalidParameter, connectionFailed, stpPassthru}
 use Rattle.phy.specs.declared.PhyIdentifier.{PhyIdentifier}
 use Rattle.phy.specs.declared.PortIdentifier.{PortIdentifier}
 use Rattle.stp.specs.Body.{fis, command, dataLength}
-use Rattle.disk.specs.Disk.{ataCommand, answerOf, lba, performed, Performed, Lent}
+use Rattle.disk.specs.Disk.{lba, performed, Performed, Lent}
 use Rattle.disk.proofs.WaysLaws.{performed-by}
 use Rattle.disk.specs.Sector.{sector, replyStatus, covers}
-use Rattle.disk.proofs.Laws.{writes, sectorAfter, disk-length, sector-after}
+use Rattle.disk.proofs.Laws.{writes, sectorAfter, disk-length, disk-read, sector-after}
 use Rattle.adapter.specs.Adapter.{Adapter, mediumSize, phyIn}
 use Rattle.select.specs.declared.Selection.{Selection}
 use Rattle.select.specs.Select.{selection, selectBy, lowestOf, phyGiven, portGiven, portIn}
@@ -138,20 +138,9 @@ module _ (ad : Adapter) (store : Store) (body : List ℕ) (h : length (store .me
         performed-by (diskOf (store .medium) to) body lent (λ (s : Performed). s .code ≤ 2014)
         (record { refused = omega arith; plain = λ _. omega arith; filled = λ _ _ _. omega arith; written = λ _ _ _. omega arith })
 
-    -- a command that is no write leaves the disk, which is put back as it was
-    disk-read : (command body ≡ 0x30 → ⊥) → onto .disk ≡ diskOf (store .medium) to
-    unfolding ataCommand
-    disk-read n =
-        performed-by (diskOf (store .medium) to) body lent (λ (s : Performed). s .disk ≡ diskOf (store .medium) to)
-        (record {
-          refused = refl;
-          plain = λ _. refl;
-          filled = λ _ _ _. refl;
-          written = λ w _ _. absurd (n (eqb-true (command body) 0x30 (both-left (eqb (command body) 0x30) (eqb (answerOf body .status) 0x50) w)));
-        })
-
+    -- a command that is no write: its disk is put back as it was
     medium-read : (command body ≡ 0x30 → ⊥) → splice (store .medium) (8192 * to) (onto .disk) ≡ store .medium
-    medium-read n = rw (disk-read n) (splice-own (store .medium) (8192 * to) 8192 inside)
+    medium-read n = rw (disk-read (diskOf (store .medium) to) body lent n) (splice-own (store .medium) (8192 * to) 8192 inside)
 
 -- ---- the effect
 

@@ -9,7 +9,7 @@ use lib.Dec.{eqb, leb, ltb}
 use lib.ListN.{length, getD}
 use borrow.Author.Tests.{eq-eqb, ne-eqb, ltb-true}
 use Rattle.laws.specs.Choice.{by-bool, both-right, either, either-by}
-use Rattle.codes.specs.Codes.{success, setPhyInfo, getLinkErrors, resetPlace, resetCounts}
+use Rattle.codes.specs.Codes.{success, setPhyInfo, getLinkErrors, resetPlace, linkErrorResetCounts}
 use Rattle.phy.specs.declared.Phy.{Phy}
 use Rattle.phy.specs.declared.PhyIdentifier.{PhyIdentifier}
 use Rattle.phy.specs.Entity.{programmedMinimum, programmedMaximum}
@@ -114,20 +114,20 @@ told-other body place m before d = rw (ne-eqb (named body) m (λ q. d (sym q))) 
 
 module _ (ad : Adapter) (body : List ℕ) where
   errors-by : (P : Changed → Type 0) → ((code : ℕ) → 0 < code → code ≤ 2014 → P (leaves code ad body))
-      → (eqb (getD body resetPlace 0) resetCounts ≡ true → named body < ad .«phy_count»
+      → (eqb (getD body resetPlace 0) linkErrorResetCounts ≡ true → named body < ad .«phy_count»
       → P (leaves success (withPhy ad (named body) (cleared (phyIn ad (named body)))) (countersShown body (phyIn ad (named body) .counters))))
       → P (leaves success ad (countersShown body (phyIn ad (named body) .counters))) → P (linkErrors ad body)
   unfolding linkErrors afterReset
   errors-by P refused cleared kept =
       either P (leb (getD body resetPlace 0) 1)
       (either-by P (ltb (named body) (ad .«phy_count»))
-      (λ k. either-by (λ (s : Stored). P (withBody s (countersShown body (phyIn ad (named body) .counters)))) (eqb (getD body resetPlace 0) resetCounts)
+      (λ k. either-by (λ (s : Stored). P (withBody s (countersShown body (phyIn ad (named body) .counters)))) (eqb (getD body resetPlace 0) linkErrorResetCounts)
       (λ t. cleared t (ltb-true (named body) (ad .«phy_count») k)) (λ _. kept))
       (λ _. refused 2002 (omega arith) (omega arith)))
       (refused 3 (omega arith) (omega arith))
 
   -- one that does not clear leaves the tables
-  pub errors-read : eqb (getD body resetPlace 0) resetCounts ≡ false → linkErrors ad body .adapter ≡ ad
+  pub errors-read : eqb (getD body resetPlace 0) linkErrorResetCounts ≡ false → linkErrors ad body .adapter ≡ ad
   errors-read e = errors-by (λ (c : Changed). c .adapter ≡ ad) (λ _ _ _. refl) (λ t _. absurd (true≢false (sym t ∙ e))) refl
 
 -- ---- their effects

@@ -14,11 +14,11 @@ use Rattle.header.specs.declared.Kind.{Kind}
 use Rattle.header.specs.declared.Kind.the-variants.{Srb, Linux}
 use Rattle.header.specs.Table.{need}
 use Rattle.header.specs.Sent.{Request, levelBy, controlOf, bodyOf}
-use Rattle.header.proofs.TableLaws.{below-sets, below-clears, below-writes}
+use Rattle.header.proofs.TableLaws.{Unwriting, below-full}
 use Rattle.header.proofs.SentLaws.{checks-need}
 use Rattle.service.specs.Serve.{Store, withMedium, Served, served}
 use Rattle.service.proofs.Laws.{passthrough-lent}
-use Rattle.dispatch.specs.Request.{Point, point, Outcome, handled}
+use Rattle.dispatch.specs.Request.{Point, point, Outcome}
 use Rattle.claims.specs.Run.{Entry, step, entryOf}
 use Rattle.claims.specs.ReadOnly.{firstBy, underFirst, ReadOnly}
 use Rattle.claims.proofs.Steps.{level-kept}
@@ -26,23 +26,23 @@ use Rattle.claims.proofs.Ways.{Ready, served-by, handled-by}
 use Rattle.claims.proofs.PhyEffects.{errors-read}
 use Rattle.claims.proofs.DiskEffect.{passthrough-read}
 
--- what is served for a need below Full changes no table and no disk
-module _ (ad : Adapter) (store : Store) (control : ℕ) (body : List ℕ) (low : need control body .0 < full .0) (k : Ready ad store control body) where
+-- ---- a request that was served
+
+module _ (ad : Adapter) (store : Store) where
   Stays : Served → Type 0
   Stays x = (x .adapter ≡ ad) × (x .store ≡ store)
 
-  served-stays : Stays (served ad store control body)
+  -- one that asks for no write changes no table and no disk
+  served-stays : (control : ℕ) (body : List ℕ) → Unwriting control body → Ready ad store control body → Stays (served ad store control body)
   unfolding Stays
-  served-stays =
+  served-stays control body u k =
       served-by ad store control body Stays
-      (λ e. absurd (below-sets control body low e))
-      (λ e. (errors-read ad body (below-clears control body low e), refl))
-      (λ e. (
-        refl,
-        ap (withMedium store)
-            (passthrough-read ad store body (k .disks) (passthrough-lent control (length body) body e (k .room)) (below-writes control body low e)),
-      ))
+      (λ e. absurd (u .set e))
+      (λ e. (errors-read ad body (u .cleared e), refl))
+      (λ e. (refl, ap (withMedium store) (passthrough-read ad store body (k .disks) (passthrough-lent control (length body) body e (k .room)) (u .written e))))
       (λ _ _. (refl, refl))
+
+-- ---- a request below Full
 
 -- a level below Full
 abbrev Low : Point → Type 0
@@ -59,11 +59,13 @@ request-stays p r low first =
     (λ passes _ k.
     let level : Level = p .state .level in
     let held : need (controlOf r) (bodyOf r) .0 ≤ level .0 = rw (first-held (r .kind) level first) at (checks-need level r passes) in
-    let s = served-stays (p .state .adapter) (p .store) (controlOf r) (bodyOf r) (omega arith) k in
+    let s = served-stays (p .state .adapter) (p .store) (controlOf r) (bodyOf r) (below-full (controlOf r) (bodyOf r) (omega arith)) k in
     ap₂ (λ (ad : Adapter) (store : Store). point (stateWith level ad) store) (s .0) (s .1))
 
 low-kept : (p : Point) (r : Request) → Low p → Low (step p r)
 low-kept p r h = rw (level-kept p r) h
+
+-- ---- a run
 
 pub read-only : ReadOnly
 read-only p requests h =

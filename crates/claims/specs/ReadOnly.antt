@@ -1,5 +1,5 @@
--- A level below Full is a read-only account's (W-202: it "must not wipe evidence of a bad cable"). There no request under the first header changes
--- a table, a counter or a disk, whatever it asks. One under the Linux header runs as Full, whatever the level. Assumes nothing.
+-- Below Full no request under the first header changes a table, a counter or a disk, whatever it asks. W-202's reason is part of it: "a read-only
+-- account must not wipe evidence of a bad cable". One under the Linux header runs as Full, whatever the level. Assumes nothing.
 use mathlib.Core.Path.{_≡_}
 use mathlib.Core.Bool.{Bool, true, false}
 use mathlib.Core.List.{List}
@@ -27,10 +27,10 @@ linuxIn = undropped underFirst
 abbrev pub linuxEntries : List Entry → List Entry
 linuxEntries = undropped (λ (e : Entry). underFirst (e .exchange .sent))
 
--- a run ends where one of its Linux requests alone does, and these get the same replies: those under the first header left no trace
-pub record NoTrace (whole linux : End) : Type 0 where
-  pub point : linux .point ≡ whole .point
-  pub log : linux .log ≡ linuxEntries (whole .log)
+-- a run ends where the run of its Linux requests alone ends, and these get the same replies: those under the first header left no trace
+pub record NoTrace (whole alone : End) : Type 0 where
+  pub point : alone .point ≡ whole .point
+  pub log : alone .log ≡ linuxEntries (whole .log)
 
 -- from any state of a level below Full and any medium, whichever the requests
 abbrev pub ReadOnly : Type 0

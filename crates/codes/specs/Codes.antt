@@ -1,4 +1,4 @@
--- The numbers of CSMI's section 10, each said once, under section 10's names: control codes, link rates, device types, connection status, directions, the reset of counters and return codes. Where
+-- The numbers of CSMI's section 10, each said once, under section 10's names: control codes, link rates, device types, connection status, directions, return codes, and the reset of link errors with its place. Where
 -- document 01 prints another number, section 10 decides, as document 01 says. The call's own numbers are document 01's.
 -- Assumes nothing.
 use Prim.Native.Nat.{ℕ}
@@ -72,13 +72,13 @@ dataRead = 0
 abbrev pub dataWrite : ℕ
 dataWrite = 1
 
--- bResetCounts of a code 22 (6.9): its place in the body, and RESET_COUNTS
+-- link error reset (6.9): the place of bResetCounts in the body of a code 22, and the value that clears
 
 abbrev pub resetPlace : ℕ
 resetPlace = 1
 
-abbrev pub resetCounts : ℕ
-resetCounts = 1
+abbrev pub linkErrorResetCounts : ℕ
+linkErrorResetCounts = 1
 
 -- return codes ("In the return code", document 01)
 

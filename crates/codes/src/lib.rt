@@ -1,4 +1,4 @@
-// The numbers of CSMI's section 10, each said once: control codes, link rates, device types, connection status, directions, the reset of counters and return codes. The call's own numbers are document 01's.
+// The numbers of CSMI's section 10, each said once: control codes, link rates, device types, connection status, directions, return codes, and the reset of link errors with its place. The call's own numbers are document 01's.
 
 // Control codes.
 pub const GET_DRIVER_INFO: u32 = 1;
@@ -43,10 +43,10 @@ pub const DATA_READ: u16 = 0;
 
 pub const DATA_WRITE: u16 = 1;
 
-// The place of bResetCounts in the body of a code 22, and the value that clears the counters.
+// Link error reset: the place of bResetCounts in the body of a code 22, and the value that clears.
 pub const RESET_PLACE: usize = 1;
 
-pub const RESET_COUNTS: u8 = 1;
+pub const LINK_ERROR_RESET_COUNTS: u8 = 1;
 
 // Return codes.
 pub const SUCCESS: u32 = 0;

@@ -6,8 +6,8 @@ use Prim.Native.Nat.{ℕ, _+_, _-_, _*_, _<_, _≤_}
 use native.Mathlib.Omega.{arith}
 use lib.Dec.{eqb, ltb, leb}
 use lib.ListN.{length, getD}
-use borrow.Author.Tests.{ltb-true, ltb-false, leb-true, leb-false}
-use Rattle.laws.specs.Choice.{by-bool, either-by}
+use borrow.Author.Tests.{eqb-true, ltb-true, ltb-false, leb-true, leb-false}
+use Rattle.laws.specs.Choice.{by-bool, either-by, both-left}
 use Rattle.laws.specs.Splice.{part, splice, length-part, length-splice, part-part, part-in, part-below, part-above, get-in, get-below}
 use Rattle.wire.specs.Number.{bytes}
 use Rattle.disk.specs.declared.Answer.{Answer}
@@ -117,6 +117,18 @@ module _ (disk body : List ℕ) (h : Lent disk body (dataLength body)) where
         written = λ _ i m.
             let l : length (part body 136 (512 * count body)) ≡ 512 * count body = length-part body 136 (512 * count body) m in
             length-splice disk (512 * lba body) (part body 136 (512 * count body)) (omega arith) ∙ h .0;
+      })
+
+  -- and one that is no write leaves it as it was
+  pub disk-read : (command body ≡ 0x30 → ⊥) → performed disk body .disk ≡ disk
+  unfolding ataCommand
+  disk-read n =
+      performed-by disk body h (λ (s : Performed). s .disk ≡ disk)
+      (record {
+        refused = refl;
+        plain = λ _. refl;
+        filled = λ _ _ _. refl;
+        written = λ w _ _. absurd (n (eqb-true (command body) 0x30 (both-left (eqb (command body) 0x30) (eqb (answerOf body .status) 0x50) w)));
       })
 
   -- a reply with code 0 tells whether the request wrote

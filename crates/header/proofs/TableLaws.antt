@@ -1,4 +1,4 @@
--- What the control codes' table says of all of them. Assumes nothing.
+-- What the control codes' table says: the room of a structure, and the needs. Assumes nothing.
 use mathlib.Core.Path.{_≡_, refl}
 use mathlib.Core.Bool.{Bool, false, cond}
 use mathlib.Core.List.{List}
@@ -8,24 +8,29 @@ use native.Mathlib.Omega.{arith}
 use lib.Dec.{eqb}
 use lib.ListN.{getD}
 use Rattle.laws.specs.Choice.{by-bool, either}
-use Rattle.codes.specs.Codes.{getDriverInfo, getPhyInfo, setPhyInfo, getLinkErrors, stpPassthru, getSataSignature, getScsiAddress, getDeviceAddress, resetPlace, resetCounts}
+use Rattle.codes.specs.Codes.{getDriverInfo, getPhyInfo, setPhyInfo, getLinkErrors, stpPassthru, getSataSignature, getScsiAddress, getDeviceAddress, resetPlace, linkErrorResetCounts}
 use Rattle.level.specs.declared.Level.{Level}
 use Rattle.level.specs.Text.{restricted, full}
-use Rattle.level.specs.Need.{among, needOf}
-use Rattle.level.proofs.BoundLaws.{need-bound}
+use Rattle.level.proofs.BoundLaws.{need-bound, write-need}
 use Rattle.stp.specs.Body.{command}
 use Rattle.header.specs.Table.{structureSize, linkErrorsNeed, need}
-use Rattle.header.specs.Sent.{above}
 
--- a code 22 whose structure is there has all of it
+-- ---- rooms
+
+-- a request whose structure is there has every byte of it
+structure-room : (control code k n : ℕ) → control ≡ code → structureSize control ≤ n → k ≤ structureSize code → k ≤ n
+structure-room control code k n e h l = le-trans l (rw e at h)
+
+-- of code 22, and of code 25, of which it is the fixed part
 pub errors-room : (control k n : ℕ) → control ≡ getLinkErrors → structureSize control ≤ n → k ≤ 20 → k ≤ n
 unfolding structureSize
-errors-room control k n e h l = le-trans l (rw e at h)
+errors-room control k n e h l = structure-room control getLinkErrors k n e h l
 
--- and a code 25 its fixed part
 pub passthrough-room : (control k n : ℕ) → control ≡ stpPassthru → structureSize control ≤ n → k ≤ 136 → k ≤ n
 unfolding structureSize
-passthrough-room control k n e h l = le-trans l (rw e at h)
+passthrough-room control k n e h l = structure-room control stpPassthru k n e h l
+
+-- ---- needs
 
 -- no need is above Full
 pub need-full : (control : ℕ) (body : List ℕ) → need control body .0 ≤ full .0
@@ -34,7 +39,7 @@ need-full control body =
     either Within (eqb control getDriverInfo) (omega arith)
     (either Within (eqb control getPhyInfo) (omega arith)
     (either Within (eqb control setPhyInfo) (omega arith)
-    (either Within (eqb control getLinkErrors) (either Within (eqb (getD body resetPlace 0) resetCounts) (omega arith) (omega arith))
+    (either Within (eqb control getLinkErrors) (either Within (eqb (getD body resetPlace 0) linkErrorResetCounts) (omega arith) (omega arith))
     (either Within (eqb control stpPassthru) (need-bound (command body))
     (either Within (eqb control getSataSignature) (omega arith)
     (either Within (eqb control getScsiAddress) (omega arith)
@@ -43,21 +48,20 @@ need-full control body =
     Within : Level → Type 0
     Within l = l .0 ≤ full .0
 
--- ---- a need below Full
+-- what a request must not ask if it is to change nothing: a phy set, counters cleared, a disk written
+pub record Unwriting (control : ℕ) (body : List ℕ) : Type 0 where
+  pub set : control ≡ setPhyInfo → ⊥
+  pub cleared : control ≡ getLinkErrors → eqb (getD body resetPlace 0) linkErrorResetCounts ≡ false
+  pub written : control ≡ stpPassthru → command body ≡ 0x30 → ⊥
 
-module _ (control : ℕ) (body : List ℕ) (h : need control body .0 < full .0) where
-  -- is not that of a code 21
-  pub below-sets : control ≡ setPhyInfo → ⊥
-  unfolding need
-  below-sets e = let k : 3 < 3 = rw e at h in omega arith
-
-  -- nor of a code 22 that clears
-  pub below-clears : control ≡ getLinkErrors → eqb (getD body resetPlace 0) resetCounts ≡ false
-  unfolding need linkErrorsNeed
-  below-clears e =
-      by-bool (λ (b : Bool). cond b full restricted .0 < 3 → b ≡ false) (λ l. absurd (omega arith)) (λ _. refl) (eqb (getD body resetPlace 0) resetCounts) (rw e at h)
-
-  -- nor of a code 25 that writes
-  pub below-writes : control ≡ stpPassthru → command body ≡ 0x30 → ⊥
-  unfolding need needOf among
-  below-writes e c = let k : 3 < 3 = rw (e, c) at h in omega arith
+-- a need below Full is that of such a request
+pub below-full : (control : ℕ) (body : List ℕ) → need control body .0 < full .0 → Unwriting control body
+unfolding need linkErrorsNeed
+below-full control body h =
+    record {
+      set = λ e. let k : 3 < 3 = rw e at h in omega arith;
+      cleared = λ e.
+          by-bool (λ (b : Bool). cond b full restricted .0 < 3 → b ≡ false) (λ l. absurd (omega arith)) (λ _. refl) (eqb (getD body resetPlace 0) linkErrorResetCounts)
+          (rw e at h);
+      written = λ e c. let k : 3 < 3 = rw (e, write-need (command body) c) at h in omega arith;
+    }

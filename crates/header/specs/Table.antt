@@ -1,5 +1,5 @@
 -- What each control code asks of a request: whether it is known, the size of its structure, its signature, its data and its need (document
--- 01, "Level" and "Request"). A new code is a new line in `known`, `structureSize` and `need`, and in the others where it is not as the
+-- 01, "Level" and "Request"; W-202). A new code is a new line in `known`, `structureSize` and `need`, and in the others where it is not as the
 -- rest. Assumes nothing.
 use mathlib.Core.Bool.{Bool, cond, _||_}
 use mathlib.Core.List.{List, [], _∷_, _++_}
@@ -7,7 +7,7 @@ use Prim.Native.Nat.{ℕ}
 use lib.Dec.{eqb}
 use lib.ListN.{getD}
 use Rattle.laws.specs.Ascii.{ascii}
-use Rattle.codes.specs.Codes.{getDriverInfo, getPhyInfo, setPhyInfo, getLinkErrors, stpPassthru, getSataSignature, getScsiAddress, getDeviceAddress, resetPlace, resetCounts}
+use Rattle.codes.specs.Codes.{getDriverInfo, getPhyInfo, setPhyInfo, getLinkErrors, stpPassthru, getSataSignature, getScsiAddress, getDeviceAddress, resetPlace, linkErrorResetCounts}
 use Rattle.level.specs.declared.Level.{Level}
 use Rattle.level.specs.Text.{restricted, full}
 use Rattle.level.specs.Need.{needOf}
@@ -55,10 +55,10 @@ signedAll control = eqb control getDriverInfo
 
 -- "A code 22 request with its reset byte at 1 needs Full ..; with any other byte it still needs Restricted" (W-202)
 unfoldable pub linkErrorsNeed : ℕ → Level
-linkErrorsNeed reset = cond (eqb reset resetCounts) full restricted
+linkErrorsNeed reset = cond (eqb reset linkErrorResetCounts) full restricted
 
--- "codes 1, 20, 22, 26, 27, 28 Restricted; 21 Full. .. Code 25 takes the need of each of the 256 command codes, byte 2 of the command
--- FIS"; code 22 as above. A code that no line names needs Full
+-- "codes 1, 20, .. 26, 27, 28 Restricted; 21 Full. .. Code 25 takes the need of each of the 256 command codes, byte 2 of the command
+-- FIS"; 22 by its reset byte, above. A code that no line names needs Full
 unfoldable pub need : ℕ → List ℕ → Level
 need control body =
     cond (eqb control getDriverInfo) restricted

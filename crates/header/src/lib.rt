@@ -1,4 +1,4 @@
-// The header of a request, of either kind, and the checks on it, up to the level (document 01, "Request"; W-201).
+// The header of a request, of either kind, and the checks on it, up to the level (document 01, "Request"; W-201, W-202).
 mod length;
 mod linux;
 mod reset;

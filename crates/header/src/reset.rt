@@ -1,4 +1,4 @@
-// The need of a code 22: clearing counters is a write (W-202).
+// The need of a code 22, which goes by its body, as that of a code 25 does (`level::Level::from_need`): clearing counters is a write (W-202).
 use level::Level;
 ghost use mathlib.Core.Path.{_≡_};
 ghost use Rattle.header.specs.Table.{linkErrorsNeed};
@@ -7,7 +7,7 @@ ghost use Rattle.header.specs.Table.{linkErrorsNeed};
 pub fn link_errors_need(reset: u8) -> Level
     ensures { λ r. ⌜ r ≡ linkErrorsNeed reset ⌝ }
 {
-    if reset == codes::RESET_COUNTS {
+    if reset == codes::LINK_ERROR_RESET_COUNTS {
         return Level::FULL;
     }
     Level::RESTRICTED

@@ -78,7 +78,7 @@ module _ {P E X : Type 0} (step : P → E → P) (note : P → E → X) where
           (λ _. ends-without (step p e) es (keeps p e i))
           (idle e) refl
 
-      -- and their notes are what its log is without
+      -- and its log is then without their notes
       pub log-without : (event : X → E) → ((p : P) (e : E) → event (note p e) ≡ e) → (p : P) (es : List E) → I p
           → log p (undropped idle es) ≡ undropped (λ (x : X). idle (event x)) (log p es)
       unfolding log undropped

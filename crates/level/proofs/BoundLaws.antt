@@ -1,4 +1,5 @@
--- A text's level is one of the four, and so is a command's need. Assumes nothing.
+-- A text's level is one of the four, and so is a command's need, which is Full of a write. Assumes nothing.
+use mathlib.Core.Path.{_≡_, refl}
 use mathlib.Core.List.{List, [], _∷_}
 use Prim.Native.Nat.{ℕ, _≤_}
 use native.Mathlib.Omega.{arith}
@@ -38,3 +39,8 @@ need-bound command =
   where
     Within : Level → Type 0
     Within l = l .0 ≤ full .0
+
+-- that of 30h, which writes sectors, is Full
+pub write-need : (command : ℕ) → command ≡ 0x30 → needOf command ≡ full
+unfolding needOf among
+write-need command e = rw e refl

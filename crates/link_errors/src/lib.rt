@@ -31,27 +31,27 @@ fn clear_counters(tables: &mut [u8], n: PhyIdentifier, phy: Phy) -> u32
     codes::SUCCESS
 }
 
-fn after_reset(tables: &mut [u8], n: PhyIdentifier, phy: Phy, byte: u8) -> u32
+fn after_reset(tables: &mut [u8], n: PhyIdentifier, phy: Phy, reset: u8) -> u32
     requires { ⌜ n .0 < 32 ⌝ }
     requires { ⌜ length (now tables) ≡ tablesSize ⌝ }
-    ensures { λ code. ⌜ gives code (tablesOf (now (tables .exit))) ≡ afterReset (tablesOf (now (tables .entry))) n phy byte ⌝ }
+    ensures { λ code. ⌜ gives code (tablesOf (now (tables .exit))) ≡ afterReset (tablesOf (now (tables .entry))) n phy reset ⌝ }
 {
-    if byte == codes::RESET_COUNTS {
+    if reset == codes::LINK_ERROR_RESET_COUNTS {
         return clear_counters(tables, n, phy);
     }
     codes::SUCCESS
 }
 
-fn show_counters(tables: &mut [u8], n: PhyIdentifier, byte: u8, body: &mut [u8]) -> u32
+fn show_counters(tables: &mut [u8], n: PhyIdentifier, reset: u8, body: &mut [u8]) -> u32
     requires { ⌜ n .0 < 32 ⌝ }
     requires { ⌜ length (now tables) ≡ tablesSize ⌝ }
     requires { ⌜ 20 ≤ length (now body) ⌝ }
-    ensures { λ code. ⌜ leaves code (tablesOf (now (tables .exit))) (now (body .exit)) ≡ shownAndReset (tablesOf (now (tables .entry))) n byte (now (body .entry)) ⌝ }
+    ensures { λ code. ⌜ leaves code (tablesOf (now (tables .exit))) (now (body .exit)) ≡ shownAndReset (tablesOf (now (tables .entry))) n reset (now (body .entry)) ⌝ }
 {
     let phy = tables::phy_at(tables, n);
     let counters = phy.counters;
     put_counters(counters, body);
-    after_reset(tables, n, phy, byte)
+    after_reset(tables, n, phy, reset)
 }
 
 // Reports a phy's four counters, and clears them where the reset byte is 1.

@@ -1,5 +1,5 @@
 //! "Two runs": the higher run's list is the lower's without the requests denied there. The replies to the others, the media and
-//! the states but the level are then equal. So they are below Full without any request of the first header: it writes nothing there (W-202).
+//! the states but the level are then equal. And below Full a run of the first header changes nothing (`ReadOnly` of `claims`, with W-202).
 
 use crate::case::{Case, Exchange, Outcome};
 use crate::names::{call, state, status};
@@ -72,7 +72,7 @@ pub fn check(side: Side, start: &Start, low: &Level, high: &Level) -> Result<usi
     Ok(denied.len())
 }
 
-/// "Read-only": in a run below Full the Linux requests alone get the same replies and leave the same.
+/// `ReadOnly` of `claims`: in a run below Full the Linux requests alone get the same replies and leave the same.
 pub fn check_read_only(side: Side, start: &Start, level: &Level) -> Result<(), String> {
     let whole = Run::of(side, start, level, start.requests)?;
     let answers = whole.exchanges();
