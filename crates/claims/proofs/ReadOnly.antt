@@ -14,7 +14,7 @@ use Rattle.header.specs.declared.Kind.{Kind}
 use Rattle.header.specs.declared.Kind.the-variants.{Srb, Linux}
 use Rattle.header.specs.Table.{need}
 use Rattle.header.specs.Sent.{Request, levelBy, controlOf, bodyOf}
-use Rattle.header.proofs.TableLaws.{Unwriting, below-full}
+use Rattle.header.proofs.TableLaws.{NoWrite, below-full}
 use Rattle.header.proofs.SentLaws.{checks-need}
 use Rattle.service.specs.Serve.{Store, withMedium, Served, served}
 use Rattle.service.proofs.Laws.{passthrough-lent}
@@ -33,7 +33,7 @@ module _ (ad : Adapter) (store : Store) where
   Stays x = (x .adapter ≡ ad) × (x .store ≡ store)
 
   -- one that asks for no write changes no table and no disk
-  served-stays : (control : ℕ) (body : List ℕ) → Unwriting control body → Ready ad store control body → Stays (served ad store control body)
+  served-stays : (control : ℕ) (body : List ℕ) → NoWrite control body → Ready ad store control body → Stays (served ad store control body)
   unfolding Stays
   served-stays control body u k =
       served-by ad store control body Stays

@@ -12,7 +12,7 @@ use Rattle.header.specs.Sent.{Request}
 use Rattle.dispatch.specs.Request.{Point}
 use Rattle.claims.specs.Run.{Entry, End, run}
 
--- by the first header
+-- whether it is under the first header, by its kind
 abbrev pub firstBy : Kind → Bool
 firstBy Srb = true
 firstBy (Linux control) = false
@@ -21,10 +21,10 @@ abbrev pub underFirst : Request → Bool
 underFirst r = firstBy (r .kind)
 
 -- the requests of a list, and the entries of a log, under the Linux header
-abbrev pub linuxIn : List Request → List Request
+abbrev linuxIn : List Request → List Request
 linuxIn = undropped underFirst
 
-abbrev pub linuxEntries : List Entry → List Entry
+abbrev linuxEntries : List Entry → List Entry
 linuxEntries = undropped (λ (e : Entry). underFirst (e .exchange .sent))
 
 -- a run ends where the run of its Linux requests alone ends, and these get the same replies: those under the first header left no trace

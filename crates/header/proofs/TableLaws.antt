@@ -17,18 +17,18 @@ use Rattle.header.specs.Table.{structureSize, linkErrorsNeed, need}
 
 -- ---- rooms
 
--- a request whose structure is there has every byte of it
-structure-room : (control code k n : ℕ) → control ≡ code → structureSize control ≤ n → k ≤ structureSize code → k ≤ n
-structure-room control code k n e h l = le-trans l (rw e at h)
+-- the structure of a code that was tested
+pub room : (control code k n : ℕ) → control ≡ code → structureSize control ≤ n → structureSize code ≡ k → k ≤ n
+room control code k n e h s = rw (← s, ← e) h
 
--- of code 22, and of code 25, of which it is the fixed part
+-- a part of it: of code 22, and of code 25, whose structure is its fixed part
 pub errors-room : (control k n : ℕ) → control ≡ getLinkErrors → structureSize control ≤ n → k ≤ 20 → k ≤ n
 unfolding structureSize
-errors-room control k n e h l = structure-room control getLinkErrors k n e h l
+errors-room control k n e h l = le-trans l (room control getLinkErrors 20 n e h refl)
 
 pub passthrough-room : (control k n : ℕ) → control ≡ stpPassthru → structureSize control ≤ n → k ≤ 136 → k ≤ n
 unfolding structureSize
-passthrough-room control k n e h l = structure-room control stpPassthru k n e h l
+passthrough-room control k n e h l = le-trans l (room control stpPassthru 136 n e h refl)
 
 -- ---- needs
 
@@ -49,13 +49,13 @@ need-full control body =
     Within l = l .0 ≤ full .0
 
 -- what a request must not ask if it is to change nothing: a phy set, counters cleared, a disk written
-pub record Unwriting (control : ℕ) (body : List ℕ) : Type 0 where
+pub record NoWrite (control : ℕ) (body : List ℕ) : Type 0 where
   pub set : control ≡ setPhyInfo → ⊥
   pub cleared : control ≡ getLinkErrors → eqb (getD body resetPlace 0) linkErrorResetCounts ≡ false
   pub written : control ≡ stpPassthru → command body ≡ 0x30 → ⊥
 
 -- a need below Full is that of such a request
-pub below-full : (control : ℕ) (body : List ℕ) → need control body .0 < full .0 → Unwriting control body
+pub below-full : (control : ℕ) (body : List ℕ) → need control body .0 < full .0 → NoWrite control body
 unfolding need linkErrorsNeed
 below-full control body h =
     record {

@@ -6,6 +6,7 @@ use native.Mathlib.Nat.{le-trans, le-add-right}
 use Rattle.codes.specs.Codes.{stpPassthru}
 use Rattle.stp.specs.Body.{dataLength}
 use Rattle.header.specs.Table.{structureSize, dataSize}
+use Rattle.header.proofs.TableLaws.{room}
 use Rattle.adapter.specs.Adapter.{Adapter}
 use Rattle.adapter.specs.Changed.{Changed, leaves}
 use Rattle.reports.specs.Report.{Report, report}
@@ -14,13 +15,9 @@ use Rattle.service.specs.Serve.{Store, withMedium, serves, changed, repo
 
 -- ---- rooms
 
--- the structure of a code that was tested
-pub room : (control code k n : ℕ) → control ≡ code → structureSize control ≤ n → structureSize code ≡ k → k ≤ n
-room control code k n e h s = rw (← s, ← e) h
-
--- the same, and where its data is counted too
+-- the structure of a code that was tested, where its data is counted too
 pub room-and-data : (control code k d n : ℕ) → control ≡ code → structureSize control + d ≤ n → structureSize code ≡ k → k ≤ n
-room-and-data control code k d n e h s = rw (← s, ← e) (le-trans (le-add-right (structureSize control) d) h)
+room-and-data control code k d n e h s = room control code k n e (le-trans (le-add-right (structureSize control) d) h) s
 
 pub structure-part : (size d n : ℕ) → size + d ≤ n → size ≤ n
 structure-part size d n h = le-trans (le-add-right size d) h

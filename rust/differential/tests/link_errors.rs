@@ -65,7 +65,7 @@ fn answers(pair: &mut Pair, sound: &[u8], medium: &[u8], of_body: OfBody, phy: u
     if asked.code() == status::SUCCESS {
         let counters = counters(&mut state, phy);
         expected.body_mut()[at::COUNTERS..].copy_from_slice(counters);
-        if reset == 1 {
+        if reset == RESET_COUNTS {
             counters.fill(0);
         }
     }
@@ -170,7 +170,7 @@ fn list(random: &mut Random, p: usize, headers: &[OfBody]) -> Vec<Request> {
 fn denied(level: u8, list: &[Request]) -> usize {
     let is_denied = |one: &&Request| match level {
         NONE => true,
-        RESTRICTED | LIMITED => one.body()[at::RESET] == 1,
+        RESTRICTED | LIMITED => one.body()[at::RESET] == RESET_COUNTS,
         _ => false,
     };
     let first = list.iter().filter(|one| !one.header.is_linux());
@@ -189,7 +189,7 @@ fn cleared(case: &Case, outcome: &Outcome, mut state: Vec<u8>) -> usize {
         let [sent, reply] = [one.request, one.reply].map(|buffer| one.header.body(buffer));
         let counters = counters(&mut state, sent[at::PHY]);
         assert_eq!(reply[at::COUNTERS..], *counters);
-        if sent[at::RESET] == 1 {
+        if sent[at::RESET] == RESET_COUNTS {
             counters.fill(0);
             times += 1;
         }

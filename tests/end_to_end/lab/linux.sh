@@ -34,14 +34,7 @@ END
 if command -v python3 >/dev/null; then
     try "JSON and CSV of Linux requests as python reads them" linux_in_python
 fi
-# What docs/LAB.md and README.md show of it is what it prints.
-linux_in_documents() {
-    local mark
-    mark="    $(tail -n 1 "$here/lab/linux.out")"
-    grep -qxF "$mark" docs/LAB.md && grep -qxF "$mark" README.md &&
-        ! sed -n '/^### With Linux requests/,/^## /s/^    //p' docs/LAB.md | grep . | grep -vxFf "$here/lab/linux.out"
-}
-try "Linux requests in docs/LAB.md and README.md" linux_in_documents
+try "Linux requests in docs/LAB.md and README.md" shown_in_documents linux '/^### With Linux requests/,/^## /'
 
 # 2: no difference is not yet a console that reads
 dir=$(with linux_writes session.txt "linux get-phy-info\n$write_disk\n$read_disk\nlinux set-phy-info phy=1 maximum=8\n")

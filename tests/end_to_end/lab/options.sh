@@ -106,14 +106,7 @@ else
 fi
 rm -r "$dir"
 
-# What docs/LAB.md and README.md show of samples/writes is what it prints: the mark, and in docs/LAB.md what the runs left.
-writes_in_documents() {
-    local mark
-    mark="    $(tail -n 1 "$here/lab/writes.out")"
-    grep -qxF "$mark" docs/LAB.md && grep -qxF "$mark" README.md &&
-        ! sed -n '/^    left by the runs/,/^The mark:/s/^    //p' docs/LAB.md | grep . | grep -vxFf "$here/lab/writes.out"
-}
-try "samples/writes in docs/LAB.md and README.md" writes_in_documents
+try "samples/writes in docs/LAB.md and README.md" shown_in_documents writes '/^    left by the runs/,/^The mark:/'
 # The exercise that docs/LAB.md writes by hand has the mark that stands there.
 by_hand() {
     local folder=$work/hand

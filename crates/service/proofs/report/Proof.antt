@@ -1,5 +1,5 @@
 -- `service::report` meets its contract. Assumes nothing.
-use Rattle.service.proofs.Laws.{room}
+use Rattle.header.proofs.TableLaws.{room}
 use Rattle.service.specs.Serve.{reportOf}
 use Rattle.header.specs.Table.{structureSize}
 use borrow.Author.Needs.{needs}
