@@ -1,5 +1,6 @@
 -- The laws that the proofs of this crate and of the crates above cite.
-pub mod NeedLaws
+pub mod RangesLaws
+pub mod FewestLaws
 pub mod WalkLaws
 pub mod BoundLaws
 pub mod StarredLaws

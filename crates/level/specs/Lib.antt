@@ -1,4 +1,5 @@
 pub mod Text
 pub mod Need
+pub mod Ranges
 pub mod Walk
 pub mod Starred

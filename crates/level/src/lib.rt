@@ -2,7 +2,7 @@
 mod need;
 mod text;
 
-use need::listed;
+use need::by_range;
 use text::begins_ours;
 use text::exact_level;
 pub use text::of_text;
@@ -52,15 +52,6 @@ impl Level {
     pub fn from_need(command: u8) -> Level
         ensures { λ r. ⌜ r ≡ needOf command ⌝ }
     {
-        if listed(
-            command,
-            b"\x00\x20\x24\x25\x26\x27\x29\x2f\x40\x42\x70\x90\xa1\xb0\xc4\xc7\xc8\xe4\xe5\xe7\xea\xec\xf8",
-        ) {
-            return Level::RESTRICTED;
-        }
-        if listed(command, b"\x92\xe8") {
-            return Level::LIMITED;
-        }
-        Level::FULL
+        by_range(command)
     }
 }
