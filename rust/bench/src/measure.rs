@@ -3,7 +3,7 @@
 use crate::workload::{self, Kind};
 use differential::case::Case;
 use differential::compare::compare;
-use differential::names::call;
+use differential::names::{call, status};
 use differential::need;
 use differential::run::Written;
 use differential::side::Side;
@@ -106,7 +106,7 @@ fn median(mut times: Vec<Duration>) -> Duration {
     times[times.len() / 2]
 }
 
-/// A session that all sides answer alike, with every request granted, or, where there are no rows, answered.
+/// A session that all sides answer alike, with every request granted, or, where there are no rows, answered; or every one denied.
 pub fn checked(kind: Kind, p: usize, a: usize, requests: usize) -> Case {
     let case = workload::case(kind, p, a, requests);
     let outcome = compare(&case).unwrap_or_else(|difference| panic!("{difference}"));
@@ -116,6 +116,11 @@ pub fn checked(kind: Kind, p: usize, a: usize, requests: usize) -> Case {
     assert!(exchanges
         .iter()
         .all(|exchange| exchange.number == call::DONE));
-    assert!(a == 0 || exchanges.iter().all(need::granted));
+    assert!(match kind {
+        Kind::Needs => exchanges
+            .iter()
+            .all(|exchange| exchange.code == status::WRITE_ATTEMPTED),
+        _ => a == 0 || exchanges.iter().all(need::granted),
+    });
     case
 }

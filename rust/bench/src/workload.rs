@@ -1,4 +1,5 @@
-//! What is measured: an adapter of which every phy is connected, and sessions of granted requests.
+//! What is measured: an adapter of which every phy is connected, and sessions of granted requests; and one of which all are denied, by
+//! their needs.
 
 use differential::adapter::phy::Phy;
 use differential::adapter::Adapter;
@@ -17,9 +18,21 @@ pub enum Kind {
     Mixed,
     /// The same under the Linux header.
     MixedLinux,
+    /// Passthrough requests of every command code in turn, at level None: all are denied, once the need of the command is known.
+    Needs,
 }
 
-pub const SESSIONS: [(&str, Kind); 13] = [
+impl Kind {
+    /// The text of the opening.
+    fn text(self) -> &'static [u8] {
+        match self {
+            Kind::Needs => b"CSMI=None;",
+            _ => b"CSMI=Full;",
+        }
+    }
+}
+
+pub const SESSIONS: [(&str, Kind); 14] = [
     ("opening", Kind::Opening),
     ("driver-info", Kind::Code(code::DRIVER_INFO)),
     ("phy-info", Kind::Code(code::PHY_INFO)),
@@ -33,6 +46,7 @@ pub const SESSIONS: [(&str, Kind); 13] = [
     ("device-address", Kind::Code(code::DEVICE_ADDRESS)),
     ("mixed", Kind::Mixed),
     ("mixed-linux", Kind::MixedLinux),
+    ("needs", Kind::Needs),
 ];
 
 /// Those of one code or command, of which a mixed session is made.
@@ -48,16 +62,16 @@ pub fn kind(name: &str) -> Option<Kind> {
         .map(|session| session.1)
 }
 
-/// A session of so many requests at level Full.
+/// A session of so many requests.
 pub fn case(kind: Kind, p: usize, a: usize, requests: usize) -> Case {
     let random = &mut Random::new(7);
     let adapter = connected(random, p, a);
     let count = if kind == Kind::Opening { 0 } else { requests };
     let list: Vec<Request> = (0..count)
-        .map(|_| granted(random, &adapter, kind))
+        .map(|i| request(random, &adapter, kind, i))
         .collect();
     let medium = random.bytes(adapter.medium_length());
-    Case::of_requests(0, b"CSMI=Full;", &adapter.file(), &medium, &list)
+    Case::of_requests(0, kind.text(), &adapter.file(), &medium, &list)
 }
 
 /// An adapter whose phys all have a SATA disk at 3.0 Gb/s, a signature, and rates that may be changed.
@@ -81,13 +95,21 @@ fn connect(random: &mut Random, phy: &mut Phy) {
     (bytes[phy::HELD], bytes[phy::FIXED]) = (1, 0);
 }
 
-/// A request that is granted; of the two address codes, only if there are rows.
+/// The request at a place of a session.
+fn request(random: &mut Random, adapter: &Adapter, kind: Kind, at: usize) -> Request {
+    match kind {
+        Kind::Needs => passthrough(random, adapter, at as u8),
+        _ => granted(random, adapter, kind),
+    }
+}
+
+/// A request that is granted at Full; of the two address codes, only if there are rows.
 fn granted(random: &mut Random, adapter: &Adapter, kind: Kind) -> Request {
     match kind {
         Kind::Code(code::SET_PHY_INFO) => set_phy_info(random, adapter),
         Kind::Code(control) => first::sound(random, adapter, control),
         Kind::Command(command) => passthrough(random, adapter, command),
-        Kind::Mixed | Kind::Opening => {
+        Kind::Mixed | Kind::Opening | Kind::Needs => {
             let one = SESSIONS[random.within(*SINGLE.start(), *SINGLE.end())].1;
             granted(random, adapter, one)
         }

@@ -1,6 +1,7 @@
 //! The starred cases and the worked example of document 01, every number and every return code,
-//! the Linux header, the need of code 22, the state as bytes, and a walk over arbitrary inputs. What
-//! is expected stands here in the document's own numbers, which holds `codes` and `layout` to it.
+//! the Linux header, the need of code 22, the ranges of the commands' needs, the state as bytes, and
+//! a walk over arbitrary inputs. What is expected stands here in the document's own numbers, which
+//! holds `codes` and `layout` to it.
 
 mod adapter;
 mod arbitrary;
@@ -12,4 +13,5 @@ mod link_errors;
 mod linux;
 mod opening;
 mod passthrough;
+mod ranges;
 mod starred;
