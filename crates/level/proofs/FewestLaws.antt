@@ -15,7 +15,7 @@ use Rattle.level.specs.Need.{among, needOf}
 use Rattle.level.specs.Ranges.{Range, In, formula, ranges, Some, OneNeed, CanDo, Formula}
 use Rattle.level.proofs.RangesLaws.{formula-follows, formula-answers, formula-can-do}
 
--- codes that rise up to FFh, each of another need than the next
+-- codes that rise, none above FFh, each of another need than the next
 differ : ℕ → ℕ → Bool
 differ c d = not (eqb (needOf c .0) (needOf d .0))
 

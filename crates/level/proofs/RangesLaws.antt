@@ -91,12 +91,9 @@ formula-at k {c = c} e h i = sym (ap (λ (a : Arm). a .need) e) ∙ in-arm 0x00 
 pub formula-need : (r : Level) (c : ℕ) → c < 256 → r ≡ byRange formula c → r ≡ needOf c
 formula-need r c h e = e ∙ formula-answers c h
 
--- a code that is not one of a range of its own is behind it
+-- a code from n on that is not n is past n
 pub past : (n : ℕ) {c : ℕ} → n ≤ c → (c ≡ n → ⊥) → suc n ≤ c
 past n {c} h e = omega arith
-
-pub below : (n c : ℕ) → c < suc n → c ≤ n
-below n c h = omega arith
 
 -- ---- ranges that follow one another cover the codes, and those of a formula with the right answers are of one need
 

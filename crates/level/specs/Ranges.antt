@@ -11,11 +11,12 @@ use Rattle.level.specs.declared.Level.{Level}
 use Rattle.level.specs.Text.{restricted, limited, full}
 use Rattle.level.specs.Need.{needOf}
 
--- "A range is a first and a last code": the codes from the one to the other are in it
+-- "A range is a first and a last code"
 pub record Range : Type 0 where
   pub first : ℕ
   pub last : ℕ
 
+-- a code is in it
 abbrev pub In : ℕ → Range → Type 0
 In code r = (r .first ≤ code) × (code ≤ r .last)
 
@@ -24,10 +25,11 @@ pub record Arm : Type 0 where
   pub range : Range
   pub need : Level
 
+-- from a code to another, with a need
 abbrev arm : ℕ → ℕ → Level → Arm
 arm first last need = record { range = record { first = first; last = last }; need = need }
 
--- "a formula over ranges of the command code"
+-- "a formula over ranges of the command code, each of one need and together all 256"
 abbrev pub formula : List Arm
 formula =
     arm 0x00 0x00 restricted
@@ -76,12 +78,13 @@ unfoldable pub byRange : List Arm → ℕ → Level
 byRange [] code = full
 byRange (a ∷ rest) code = cond (leb (a .range .first) code && leb code (a .range .last)) (a .need) (byRange rest code)
 
+-- its ranges
 abbrev pub ranges : List Arm → List Range
 ranges [] = []
 ranges (a ∷ rest) = a .range ∷ ranges rest
 
--- "The formula's ranges follow one another from 00h to FFh": the first begins at a given code, each other one behind the last of the one
--- before it, and the last one ends at FFh
+-- "The formula's ranges follow one another from 00h to FFh": the first begins at a given code, each other one at the code after the last of
+-- the one before it, none is empty, and the last one ends at FFh
 abbrev pub Follow : ℕ → List Range → Type 0
 Follow next [] = next ≡ 256
 Follow next (r ∷ rs) = (r .first ≡ next) × (r .first ≤ r .last) × Follow (suc (r .last)) rs
@@ -103,7 +106,7 @@ OneNeed r = (c d : ℕ) → c < 256 → d < 256 → In c r → In d r → needOf
 abbrev pub CanDo : List Range → Type 0
 CanDo rs = Cover rs × All OneNeed rs
 
--- W-203, whole: what the formula says, its form, and that none is shorter
+-- what W-203 asks of the formula; that the code says the same is the contract of `by_range`
 pub record Formula : Type 0 where
   -- "the answer for each command code is the one that document 01 lists"
   pub answers : (code : ℕ) → code < 256 → byRange formula code ≡ needOf code

@@ -95,28 +95,21 @@ fn connect(random: &mut Random, phy: &mut Phy) {
     (bytes[phy::HELD], bytes[phy::FIXED]) = (1, 0);
 }
 
-/// The request at a place of a session.
+/// The request at a place of a session: granted at Full; of the two address codes, only if there are rows.
 fn request(random: &mut Random, adapter: &Adapter, kind: Kind, at: usize) -> Request {
-    match kind {
-        Kind::Needs => passthrough(random, adapter, at as u8),
-        _ => granted(random, adapter, kind),
-    }
-}
-
-/// A request that is granted at Full; of the two address codes, only if there are rows.
-fn granted(random: &mut Random, adapter: &Adapter, kind: Kind) -> Request {
     match kind {
         Kind::Code(code::SET_PHY_INFO) => set_phy_info(random, adapter),
         Kind::Code(control) => first::sound(random, adapter, control),
         Kind::Command(command) => passthrough(random, adapter, command),
-        Kind::Mixed | Kind::Opening | Kind::Needs => {
+        Kind::Mixed | Kind::Opening => {
             let one = SESSIONS[random.within(*SINGLE.start(), *SINGLE.end())].1;
-            granted(random, adapter, one)
+            request(random, adapter, one, at)
         }
         Kind::MixedLinux => {
-            let request = granted(random, adapter, Kind::Mixed);
-            linux::of_body(request.control(), request.body())
+            let first = request(random, adapter, Kind::Mixed, at);
+            linux::of_body(first.control(), first.body())
         }
+        Kind::Needs => passthrough(random, adapter, at as u8),
     }
 }
 

@@ -1,9 +1,11 @@
 //! The need by ranges of the command code (W-203): the ranges that the model's needs make, the fewest
-//! that cover the codes, and the arms of the proved code, read from its text. No contract counts arms.
+//! that cover the codes, and the arms of the proved code, read from its text. No contract counts arms,
+//! or says that an answer comes from them.
 
 use crate::level::Level;
 
-const CODE: &str = include_str!("../../../../crates/level/src/need.rt");
+const NEED: &str = include_str!("../../../../crates/level/src/need.rt");
+const LEVEL: &str = include_str!("../../../../crates/level/src/lib.rt");
 
 #[derive(Clone, Copy, Debug, PartialEq)]
 struct Range {
@@ -29,8 +31,9 @@ fn runs() -> Vec<Range> {
     runs
 }
 
-/// How many ranges of one need it takes at least to cover the codes below `end`, by trying every
-/// range that ends there, after the fewest for the codes before it.
+/// For each `end`, how many ranges of one need it takes at least to cover the codes below it, by
+/// trying every range that ends there, after the fewest for the codes before it. (Of ranges that
+/// overlap, one can be cut short.)
 fn fewest() -> Vec<usize> {
     let mut fewest = vec![0];
     for end in 1..=256 {
@@ -68,13 +71,17 @@ fn the_needs_make_39_ranges_and_none_fewer_cover_the_codes() {
 }
 
 #[test]
-fn the_proved_code_has_an_arm_for_each_range_and_no_other() {
-    let (_, body) = CODE.split_once("match command {\n").expect("a match");
+fn the_proved_code_has_an_arm_for_each_range_and_goes_by_nothing_else() {
+    let (head, body) = NEED.split_once("match command {\n").expect("a match");
+    assert!(head.ends_with("⌝ }\n{\n    "), "code before the match");
     let (arms, rest) = body.split_once("\n    }\n").expect("its end");
     let arms: Vec<Range> = arms
         .lines()
         .map(|line| arm(line).unwrap_or_else(|| panic!("no arm: {line}")))
         .collect();
     assert_eq!(arms, runs());
-    assert_eq!(rest, "}\n");
+    assert_eq!(rest, "}\n", "code behind the match");
+    let (_, from_need) = LEVEL.split_once("fn from_need(").expect("from_need");
+    let (_, body) = from_need.split_once("\n    {\n").expect("its body");
+    assert!(body.starts_with("        by_range(command)\n    }\n"));
 }

@@ -1,8 +1,9 @@
 -- `level::need::by_range` meets its contract: the codes that are a range each, and then the wider ranges, by their places in the formula. Assumes nothing.
 use mathlib.Core.Path.{refl}
+use native.Mathlib.Nat.{le-of-suc-le-suc}
 use native.Mathlib.Omega.{arith}
 use borrow.Author.Needs.{needs}
-use Rattle.level.proofs.RangesLaws.{formula-at, past, below}
+use Rattle.level.proofs.RangesLaws.{formula-at, past}
 use Rattle.level.proofs.need.by_range.Statement.{statement}
 use Rattle.level.proofs.need.by_range.Tie as tie
 
@@ -33,19 +34,19 @@ by-range-spec =
     (λ c. formula-at 34 refl (omega arith) (omega arith))
     (λ c. formula-at 35 refl (omega arith) (omega arith))
     (λ c. formula-at 37 refl (omega arith) (omega arith))
-    (λ c. formula-at 1 refl (search (past 0x00, needs)) (search (below, needs)))
-    (λ c. formula-at 3 refl (search (past 0x20, needs)) (search (below, needs)))
-    (λ c. formula-at 4 refl (search needs) (search (below, needs)))
-    (λ c. formula-at 7 refl (search (past 0x28, past 0x29, needs)) (search (below, needs)))
-    (λ c. formula-at 9 refl (search (past 0x2f, needs)) (search (below, needs)))
-    (λ c. formula-at 13 refl (search (past 0x40, past 0x41, past 0x42, needs)) (search (below, needs)))
-    (λ c. formula-at 15 refl (search (past 0x70, needs)) (search (below, needs)))
-    (λ c. formula-at 19 refl (search (past 0x90, past 0x91, past 0x92, needs)) (search (below, needs)))
-    (λ c. formula-at 21 refl (search (past 0xa1, needs)) (search (below, needs)))
-    (λ c. formula-at 23 refl (search (past 0xb0, needs)) (search (below, needs)))
-    (λ c. formula-at 25 refl (search (past 0xc4, needs)) (search (below, needs)))
-    (λ c. formula-at 26 refl (search needs) (search (below, needs)))
-    (λ c. formula-at 27 refl (search needs) (search (below, needs)))
-    (λ c. formula-at 28 refl (search needs) (search (below, needs)))
-    (λ c. formula-at 36 refl (search (past 0xe6, past 0xe7, past 0xe8, past 0xe9, past 0xea, past 0xeb, past 0xec, needs) depth 9) (search (below, needs)))
-    (λ c. formula-at 38 refl (search (past 0xf8, needs)) (search (below, needs))))
+    (λ c. formula-at 1 refl (search (past 0x00, needs)) (search (le-of-suc-le-suc, needs)))
+    (λ c. formula-at 3 refl (search (past 0x20, needs)) (search (le-of-suc-le-suc, needs)))
+    (λ c. formula-at 4 refl (search needs) (search (le-of-suc-le-suc, needs)))
+    (λ c. formula-at 7 refl (search (past 0x28, past 0x29, needs)) (search (le-of-suc-le-suc, needs)))
+    (λ c. formula-at 9 refl (search (past 0x2f, needs)) (search (le-of-suc-le-suc, needs)))
+    (λ c. formula-at 13 refl (search (past 0x40, past 0x41, past 0x42, needs)) (search (le-of-suc-le-suc, needs)))
+    (λ c. formula-at 15 refl (search (past 0x70, needs)) (search (le-of-suc-le-suc, needs)))
+    (λ c. formula-at 19 refl (search (past 0x90, past 0x91, past 0x92, needs)) (search (le-of-suc-le-suc, needs)))
+    (λ c. formula-at 21 refl (search (past 0xa1, needs)) (search (le-of-suc-le-suc, needs)))
+    (λ c. formula-at 23 refl (search (past 0xb0, needs)) (search (le-of-suc-le-suc, needs)))
+    (λ c. formula-at 25 refl (search (past 0xc4, needs)) (search (le-of-suc-le-suc, needs)))
+    (λ c. formula-at 26 refl (search needs) (search (le-of-suc-le-suc, needs)))
+    (λ c. formula-at 27 refl (search needs) (search (le-of-suc-le-suc, needs)))
+    (λ c. formula-at 28 refl (search needs) (search (le-of-suc-le-suc, needs)))
+    (λ c. formula-at 36 refl (search (past 0xe6, past 0xe7, past 0xe8, past 0xe9, past 0xea, past 0xeb, past 0xec, needs) depth 9) (search (le-of-suc-le-suc, needs)))
+    (λ c. formula-at 38 refl (search (past 0xf8, needs)) (search (le-of-suc-le-suc, needs))))
