@@ -9,12 +9,13 @@ use lib.Dec.{leb}
 use lib.ListN.{length, getD, set}
 use lib.Seq.{getD-set-same, getD-set-other}
 use borrow.Author.Tests.{leb-true}
-use Rattle.laws.specs.Choice.{both-left, both-right}
+use Rattle.laws.specs.Choice.{both, both-left, both-right}
 use Rattle.laws.specs.All.{allTo, all-at, all-by, all-same}
 use Rattle.phy.specs.declared.Phy.{Phy}
 use Rattle.phy.specs.Block.{noPhy}
 use Rattle.fields.specs.Rules.{fieldsHold, phyZero}
 use Rattle.rows.specs.Row.{zeroFrom}
+use Rattle.connectors.specs.Connector.{pinoutsHold, connectorsPast}
 use Rattle.adapter.specs.Adapter.{Adapter, phyIn, withPhy, countsHold, fieldsAll, zeroPast}
 
 -- the phy stored, and every other
@@ -40,7 +41,9 @@ tables-stored ad n phy = (refl, refl)
 pub fields-at : (ad : Adapter) (n : ℕ) → fieldsAll ad ≡ true → n < ad .«phy_count»
     → fieldsHold (phyIn ad n) (record { 0 = n }) (ad .«phy_count») ≡ true
 unfolding fieldsAll
-fields-at ad n p h = all-at (λ (i : ℕ). fieldsHold (phyIn ad i) (record { 0 = i }) (ad .«phy_count»)) (ad .«phy_count») n p h
+fields-at ad n p h =
+    all-at (λ (i : ℕ). fieldsHold (phyIn ad i) (record { 0 = i }) (ad .«phy_count»)) (ad .«phy_count») n
+    (both-left (allTo (λ (i : ℕ). fieldsHold (phyIn ad i) (record { 0 = i }) (ad .«phy_count»)) (ad .«phy_count»)) (pinoutsHold (ad .connectors) (ad .«phy_count»)) p) h
 
 -- a test that each phy below p passes, and that a phy passes as phy n, is passed by each after that phy is stored
 pub all-stored : (test : ℕ → Phy → Bool) (ad : Adapter) (n : ℕ) (phy : Phy) → n < length (ad .phys)
@@ -58,13 +61,17 @@ all-stored test ad n phy h p q =
 pub fields-stored : (ad : Adapter) (n : ℕ) (phy : Phy) → n < length (ad .phys) → fieldsAll ad ≡ true
     → fieldsHold phy (record { 0 = n }) (ad .«phy_count») ≡ true → fieldsAll (withPhy ad n phy) ≡ true
 unfolding fieldsAll withPhy
-fields-stored ad n phy h p q = all-stored (λ (i : ℕ) (x : Phy). fieldsHold x (record { 0 = i }) (ad .«phy_count»)) ad n phy h p q
+fields-stored ad n phy h p q =
+    let all : Bool = allTo (λ (i : ℕ). fieldsHold (phyIn ad i) (record { 0 = i }) (ad .«phy_count»)) (ad .«phy_count») in
+    let pinouts : Bool = pinoutsHold (ad .connectors) (ad .«phy_count») in
+    both _ pinouts (all-stored (λ (i : ℕ) (x : Phy). fieldsHold x (record { 0 = i }) (ad .«phy_count»)) ad n phy h (both-left all pinouts p) q)
+    (both-right all pinouts p)
 
 -- storing a phy below p changes nothing past p
 pub zero-stored : (ad : Adapter) (n : ℕ) (phy : Phy) → n < ad .«phy_count» → zeroPast (withPhy ad n phy) ≡ zeroPast ad
 unfolding zeroPast withPhy
 zero-stored ad n phy h =
-    ap (λ (b : Bool). b && zeroFrom (ad .rows) (ad .«row_count»))
+    ap (λ (b : Bool). b && zeroFrom (ad .rows) (ad .«row_count») && connectorsPast (ad .connectors) (ad .«phy_count»))
     (all-same (λ (i : ℕ). phyZero (getD (set (ad .phys) n phy) (ad .«phy_count» + i) noPhy)) (λ (i : ℕ). phyZero (phyIn ad (ad .«phy_count» + i))) (32 - ad .«phy_count»)
     (λ i l. ap phyZero (getD-set-other (ad .phys) n (ad .«phy_count» + i) phy noPhy (λ e. omega arith))))
 

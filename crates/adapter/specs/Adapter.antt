@@ -1,5 +1,5 @@
 -- The tables and counters of an adapter, and the rules that the file and the state share (document 01, "Adapter file" and
--- "From the state"). Assumes nothing.
+-- "From the state"; W-204). Assumes nothing.
 use mathlib.Core.Bool.{Bool, _&&_}
 use mathlib.Core.List.{List}
 use Prim.Native.Nat.{ℕ, _+_, _-_, _*_, _≤_}
@@ -10,14 +10,19 @@ use Rattle.phy.specs.declared.Phy.{Phy}
 use Rattle.phy.specs.Block.{noPhy, zeroPhy}
 use Rattle.fields.specs.Rules.{fieldsHold, phyZero}
 use Rattle.rows.specs.Row.{Row, zeroRow, zeroFrom}
+use Rattle.connectors.specs.Connector.{zeroConnector, pinoutsHold, connectorsPast}
 
--- tables and counters: the phy count p, the row count a, the driver info, 32 phys and 64 rows (107 asks that they be zero past p and a)
+-- tables and counters: the phy count p, the row count a, the driver info, 32 phys and 64 rows, the controller's configuration and status, and 32
+-- connectors (107 asks that phys, rows and connectors be zero past p and a)
 pub record Adapter : Type 0 where
   pub «phy_count» : ℕ
   pub «row_count» : ℕ
   pub info : List ℕ
   pub phys : List Phy
   pub rows : List Row
+  pub controller : List ℕ
+  pub status : List ℕ
+  pub connectors : List (List ℕ)
 
 -- phy n of an adapter
 abbrev pub phyIn : Adapter → ℕ → Phy
@@ -32,6 +37,9 @@ withPhy ad n phy =
       info = ad .info;
       phys = set (ad .phys) n phy;
       rows = ad .rows;
+      controller = ad .controller;
+      status = ad .status;
+      connectors = ad .connectors;
     }
 
 -- "A refused opening returns the zero state, p = 0"
@@ -43,6 +51,9 @@ zeroAdapter =
       info = replicate 174 0;
       phys = replicate 32 zeroPhy;
       rows = replicate 64 zeroRow;
+      controller = replicate 176 0;
+      status = replicate 36 0;
+      connectors = replicate 32 zeroConnector;
     }
 
 -- "the phy count p (1–32)", "the row count a (0–64)"
@@ -60,12 +71,15 @@ FewRows ad = ad .«row_count» ≤ 64
 abbrev pub mediumSize : Adapter → ℕ
 mediumSize ad = 8192 * ad .«phy_count»
 
--- the field rules, of each phy below p (but for the negotiated rate, which the link rule gives)
+-- the field rules, of each phy below p (but for the negotiated rate, which the link rule gives), and of its connector
 unfoldable pub fieldsAll : Adapter → Bool
-fieldsAll ad = allTo (λ (n : ℕ). fieldsHold (phyIn ad n) (record { 0 = n }) (ad .«phy_count»)) (ad .«phy_count»)
+fieldsAll ad =
+    allTo (λ (n : ℕ). fieldsHold (phyIn ad n) (record { 0 = n }) (ad .«phy_count»)) (ad .«phy_count»)
+    && pinoutsHold (ad .connectors) (ad .«phy_count»)
 
--- "zero past p and a"
+-- "zero past p and a", the connectors too
 unfoldable pub zeroPast : Adapter → Bool
 zeroPast ad =
     allTo (λ (i : ℕ). phyZero (phyIn ad (ad .«phy_count» + i))) (32 - ad .«phy_count»)
     && zeroFrom (ad .rows) (ad .«row_count»)
+    && connectorsPast (ad .connectors) (ad .«phy_count»)

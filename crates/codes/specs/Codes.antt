@@ -8,6 +8,12 @@ use Prim.Native.Nat.{ℕ}
 abbrev pub getDriverInfo : ℕ
 getDriverInfo = 1
 
+abbrev pub getCntlrConfig : ℕ
+getCntlrConfig = 2
+
+abbrev pub getCntlrStatus : ℕ
+getCntlrStatus = 3
+
 abbrev pub getPhyInfo : ℕ
 getPhyInfo = 20
 
@@ -28,6 +34,9 @@ getScsiAddress = 27
 
 abbrev pub getDeviceAddress : ℕ
 getDeviceAddress = 28
+
+abbrev pub getConnectorInfo : ℕ
+getConnectorInfo = 30
 
 -- link rates (6.7.3)
 

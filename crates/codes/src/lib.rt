@@ -3,6 +3,10 @@
 // Control codes.
 pub const GET_DRIVER_INFO: u32 = 1;
 
+pub const GET_CNTLR_CONFIG: u32 = 2;
+
+pub const GET_CNTLR_STATUS: u32 = 3;
+
 pub const GET_PHY_INFO: u32 = 20;
 
 pub const SET_PHY_INFO: u32 = 21;
@@ -16,6 +20,8 @@ pub const GET_SATA_SIGNATURE: u32 = 26;
 pub const GET_SCSI_ADDRESS: u32 = 27;
 
 pub const GET_DEVICE_ADDRESS: u32 = 28;
+
+pub const GET_CONNECTOR_INFO: u32 = 30;
 
 // Link rates.
 pub const PHY_DISABLED: u8 = 1;

@@ -2,7 +2,7 @@
 -- counts and fields, and is zero past p and a. Laws for the layers above. Assumes nothing.
 use mathlib.Core.Path.{_≡_, refl, _∙_, ap}
 use mathlib.Core.Bool.{true, _&&_}
-use mathlib.Core.List.{List}
+use mathlib.Core.List.{List, []}
 use Prim.Native.Nat.{ℕ, _+_, _-_, _<_, _≤_}
 use native.Mathlib.Omega.{arith}
 use lib.Dec.{leb, eqb}
@@ -17,10 +17,12 @@ use Rattle.fields.specs.Rules.{phyZero}
 use Rattle.fields.proofs.RulesLaws.{zero-phy}
 use Rattle.rows.specs.Row.{noRow, zeroRow}
 use Rattle.rows.proofs.RowLaws.{zero-by}
+use Rattle.connectors.specs.Connector.{zeroConnector}
+use Rattle.connectors.proofs.Laws.{past-by-zero}
 use Rattle.layout.specs.Layout.{phyCount, rowCount, blocks, fileLength}
 use Rattle.layout.specs.Unnamed.{unnamedZero}
 use Rattle.adapter.specs.Adapter.{phyIn, countsHold, fieldsAll, zeroPast}
-use Rattle.file.specs.File.{FileRead, filePhy, fileRow, adapterOf, fileRead}
+use Rattle.file.specs.File.{FileRead, filePhy, fileRow, fileConnector, adapterOf, fileRead}
 use Rattle.file.specs.Steps.{fieldsRead, blocksRead, lengthRead, countsRead, firstRead}
 use Rattle.file.proofs.StepsLaws.{first-call, first-adapter}
 
@@ -57,9 +59,12 @@ pub zero-read : (file : List ℕ) (p a : ℕ) → zeroPast (adapterOf file p a) 
 unfolding adapterOf zeroPast
 zero-read file p a =
     both _ _
+    (both _ _
     (all-by (λ (i : ℕ). phyZero (getD (padded (filePhy file) p 32 zeroPhy) (p + i) noPhy)) (32 - p)
     (λ i l. ap phyZero (getD-past (filePhy file) p 32 (p + i) zeroPhy noPhy (omega arith) (omega arith)) ∙ zero-phy))
-    (zero-by (padded (fileRow file p) a 64 zeroRow) a (λ i h k. getD-past (fileRow file p) a 64 i zeroRow noRow h k))
+    (zero-by (padded (fileRow file p) a 64 zeroRow) a (λ i h k. getD-past (fileRow file p) a 64 i zeroRow noRow h k)))
+    (past-by-zero (padded (fileConnector file p a) p 32 zeroConnector) p
+    (λ i h k. getD-past (fileConnector file p a) p 32 i zeroConnector [] h k))
 
 -- each phy of it
 pub phy-read : (file : List ℕ) (p a n : ℕ) → n < p → phyIn (adapterOf file p a) n ≡ filePhy file n

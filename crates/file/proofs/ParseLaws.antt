@@ -12,11 +12,12 @@ use Rattle.phy.specs.Block.{countersAt, phyOf, zeroPhy, noPhy}
 use Rattle.rows.specs.Row.{rowOf, rowsSize, rowStart, rowsOf, zeroRow, noRow}
 use Rattle.rows.proofs.ReadLaws.{row-part}
 use Rattle.block.specs.Check.{blockAt}
-use Rattle.layout.specs.Layout.{phyPlace, rowPlace, fileLength}
-use Rattle.tables.specs.Tables.{tablesSize, phyStart, rowsStart, phyAt, tablesOf}
+use Rattle.connectors.specs.Connector.{connectorsSize, connectorOf, connectorsOf, zeroConnector}
+use Rattle.layout.specs.Layout.{phyPlace, rowPlace, controllerPlace, statusPlace, connectorPlace, fileLength}
+use Rattle.tables.specs.Tables.{tablesSize, phyStart, rowsStart, controllerStart, statusStart, connectorsStart, phyAt, tablesOf}
 use Rattle.tables.proofs.ZeroLaws.{phy-zeros, row-zeros}
-use Rattle.file.specs.File.{filePhy, fileRow, adapterOf}
-use Rattle.file.specs.Parse.{headed, phyFrom, physFrom, rowFrom, rowsFrom}
+use Rattle.file.specs.File.{filePhy, fileRow, fileConnector, adapterOf}
+use Rattle.file.specs.Parse.{headed, phyFrom, physFrom, rowFrom, rowsFrom, controlled, connectorsFrom}
 
 -- ---- a phy and a row in a piece
 
@@ -82,12 +83,31 @@ module _ (t file : List ℕ) (p a : ℕ) (size : length t ≡ tablesSize) (k : p
   unfolding rowsOf
   rows-read = filled-as (λ (i : ℕ). rowOf (rowsFrom file p a) (rowStart i)) (fileRow file p) a 64 zeroRow noRow l row-below row-past
 
-  -- the tables with the phys behind their head, and with the rows behind these
+  -- the connectors
+  connector-long : (i : ℕ) → i < p → length (fileConnector file p a i) ≡ 36
+  unfolding fileConnector
+  connector-long i h = length-part file (connectorPlace p a i) 36 (omega arith)
+
+  connectors-long : length (connectorsFrom file p a) ≡ connectorsSize
+  unfolding connectorsFrom
+  connectors-long = length-pieces (fileConnector file p a) 36 p 32 0 connector-long k
+
+  connectors-read : connectorsOf (connectorsFrom file p a) ≡ padded (fileConnector file p a) p 32 zeroConnector
+  unfolding connectorsOf connectorOf connectorsFrom
+  connectors-read =
+      filled-as (connectorOf (connectorsFrom file p a)) (fileConnector file p a) p 32 zeroConnector [] k
+      (piece-at (fileConnector file p a) 36 p 32 0 connector-long k)
+      (piece-past (fileConnector file p a) 36 p 32 0 connector-long k)
+
+  -- the tables with the phys behind their head, with the rows behind these, with configuration and status, and with the connectors
   abbrev manned : List ℕ
   manned = splice (headed t file p a) 176 (physFrom file p)
 
+  abbrev addressed : List ℕ
+  addressed = splice manned rowsStart (rowsFrom file p a)
+
   abbrev read : List ℕ
-  read = splice manned rowsStart (rowsFrom file p a)
+  read = splice (controlled addressed file p a) connectorsStart (connectorsFrom file p a)
 
   counted-long : length (splice t 0 (p ∷ a ∷ [])) ≡ tablesSize
   counted-long = length-splice t 0 (p ∷ a ∷ []) (omega arith) ∙ size
@@ -99,10 +119,54 @@ module _ (t file : List ℕ) (p a : ℕ) (size : length t ≡ tablesSize) (k : p
   manned-long : length manned ≡ tablesSize
   manned-long = length-splice (headed t file p a) 176 (physFrom file p) (omega (arith, headed-long, phys-long)) ∙ headed-long
 
+  addressed-long : length addressed ≡ tablesSize
+  addressed-long = length-splice manned rowsStart (rowsFrom file p a) (omega (arith, manned-long, rows-long)) ∙ manned-long
+
+  pair-long : length (part file (controllerPlace p a) 212) ≡ 212
+  pair-long = length-part file (controllerPlace p a) 212 (omega arith)
+
+  controlled-long : length (controlled addressed file p a) ≡ tablesSize
+  unfolding controlled
+  controlled-long =
+      length-splice addressed controllerStart (part file (controllerPlace p a) 212) (omega (arith, addressed-long, pair-long)) ∙ addressed-long
+
+  -- what stands below configuration and status
+  low-byte : (i : ℕ) → i < controllerStart → getD read i 0 ≡ getD addressed i 0
+  unfolding controlled
+  low-byte i h =
+      get-below (controlled addressed file p a) connectorsStart (connectorsFrom file p a) i 0 (omega (arith, controlled-long)) (omega arith)
+      ∙ get-below addressed controllerStart (part file (controllerPlace p a) 212) i 0 (omega (arith, addressed-long)) h
+
+  low-part : (i n : ℕ) → i + n ≤ controllerStart → part read i n ≡ part addressed i n
+  unfolding controlled
+  low-part i n h =
+      part-below (controlled addressed file p a) connectorsStart (connectorsFrom file p a) i n (omega (arith, controlled-long)) (omega arith)
+      ∙ part-below addressed controllerStart (part file (controllerPlace p a) 212) i n (omega (arith, addressed-long)) h
+
+  -- a part of the two
+  pair-part : (i n : ℕ) → i + n ≤ 212 → part read (controllerStart + i) n ≡ part file (controllerPlace p a + i) n
+  unfolding controlled
+  pair-part i n h =
+      part-below (controlled addressed file p a) connectorsStart (connectorsFrom file p a) (controllerStart + i) n (omega (arith, controlled-long)) (omega arith)
+      ∙ part-in addressed controllerStart (part file (controllerPlace p a) 212) i n (omega (arith, addressed-long)) (omega (arith, pair-long))
+      ∙ part-part file (controllerPlace p a) 212 i n h
+
+  controller-part : part read controllerStart 176 ≡ part file (controllerPlace p a) 176
+  controller-part = pair-part 0 176 (omega arith) ∙ rw add-zero
+
+  status-part : part read statusStart 36 ≡ part file (statusPlace p a) 36
+  status-part = pair-part 176 36 (omega arith)
+
+  connectors-part : part read connectorsStart connectorsSize ≡ connectorsFrom file p a
+  connectors-part =
+      ap (part read connectorsStart) (sym connectors-long)
+      ∙ part-splice (controlled addressed file p a) connectorsStart (connectorsFrom file p a) (omega (arith, controlled-long))
+
   -- what stands in the head is the head's
   head-byte : (i : ℕ) → i < 176 → getD read i 0 ≡ getD (headed t file p a) i 0
   head-byte i h =
-      get-below manned rowsStart (rowsFrom file p a) i 0 (omega (arith, manned-long)) (omega arith)
+      low-byte i (omega arith)
+      ∙ get-below manned rowsStart (rowsFrom file p a) i 0 (omega (arith, manned-long)) (omega arith)
       ∙ get-below (headed t file p a) 176 (physFrom file p) i 0 (omega (arith, headed-long)) h
 
   count-byte : (i : ℕ) → i < 2 → getD (headed t file p a) i 0 ≡ getD (p ∷ a ∷ []) i 0
@@ -115,18 +179,23 @@ module _ (t file : List ℕ) (p a : ℕ) (size : length t ≡ tablesSize) (k : p
   info-part : part read 2 174 ≡ part file 4 174
   unfolding headed
   info-part =
-      part-below manned rowsStart (rowsFrom file p a) 2 174 (omega (arith, manned-long)) (omega arith)
+      low-part 2 174 (omega arith)
+      ∙ part-below manned rowsStart (rowsFrom file p a) 2 174 (omega (arith, manned-long)) (omega arith)
       ∙ part-below (headed t file p a) 176 (physFrom file p) 2 174 (omega (arith, headed-long)) (omega arith)
       ∙ ap (part (headed t file p a) 2) (sym info-long)
       ∙ part-splice (splice t 0 (p ∷ a ∷ [])) 2 (part file 4 174) (omega (arith, counted-long))
 
   phy-part : (n : ℕ) → n < 32 → part read (phyStart n) 104 ≡ part (physFrom file p) (104 * n) 104
   phy-part n h =
-      part-below manned rowsStart (rowsFrom file p a) (phyStart n) 104 (omega (arith, manned-long)) (omega arith)
+      low-part (phyStart n) 104 (omega arith)
+      ∙ part-below manned rowsStart (rowsFrom file p a) (phyStart n) 104 (omega (arith, manned-long)) (omega arith)
       ∙ part-in (headed t file p a) 176 (physFrom file p) (104 * n) 104 (omega (arith, headed-long)) (omega (arith, phys-long))
 
   rows-part : part read rowsStart rowsSize ≡ rowsFrom file p a
-  rows-part = ap (part read rowsStart) (sym rows-long) ∙ part-splice manned rowsStart (rowsFrom file p a) (omega (arith, manned-long))
+  rows-part =
+      low-part rowsStart rowsSize (omega arith)
+      ∙ ap (part addressed rowsStart) (sym rows-long)
+      ∙ part-splice manned rowsStart (rowsFrom file p a) (omega (arith, manned-long))
 
   -- the phys
   phy-below : (n : ℕ) → n < p → phyAt read n ≡ filePhy file n
@@ -147,13 +216,14 @@ module _ (t file : List ℕ) (p a : ℕ) (size : length t ≡ tablesSize) (k : p
       let f = head-byte 1 (omega arith) in
       let g = count-byte 0 (omega arith) in
       let h = count-byte 1 (omega arith) in
-      cc (info-part, phys-read, rows-part, rows-read)
+      cc (info-part, phys-read, rows-part, rows-read, controller-part, status-part, connectors-part, connectors-read)
 
 -- ---- what the code leaves
 
-pub parsed : (t file : List ℕ) (p a : ℕ) (b c d : List ℕ) → length t ≡ tablesSize → p ≤ 32 → a ≤ 64 → length file ≡ fileLength p a
-    → b ≡ headed t file p a → c ≡ splice b 176 (physFrom file p) → d ≡ splice c rowsStart (rowsFrom file p a) → tablesOf d ≡ adapterOf file p a
-parsed t file p a b c d size k l m e f g = rw (g, f, e) (tables-read t file p a size k l m)
+pub parsed : (t file : List ℕ) (p a : ℕ) (b c d x y : List ℕ) → length t ≡ tablesSize → p ≤ 32 → a ≤ 64 → length file ≡ fileLength p a
+    → b ≡ headed t file p a → c ≡ splice b 176 (physFrom file p) → d ≡ splice c rowsStart (rowsFrom file p a)
+    → x ≡ controlled d file p a → y ≡ splice x connectorsStart (connectorsFrom file p a) → tablesOf y ≡ adapterOf file p a
+parsed t file p a b c d x y size k l m e f g q r = rw (r, q, g, f, e) (tables-read t file p a size k l m)
 
 -- a phy's bytes and a row's, as copied
 pub phy-copied : (file d s : List ℕ) (at from n : ℕ) → from ≡ phyPlace n → s ≡ splice d at (part file from 104)
@@ -173,3 +243,13 @@ row-copied file d s at from p i e q = q ∙ rw e
 pub row-length : (file : List ℕ) (p i : ℕ) → rowPlace p i + 20 ≤ length file → length (rowFrom file p i) ≡ 20
 unfolding rowFrom
 row-length file p i h = length-part file (rowPlace p i) 20 h
+
+-- a connector's
+pub connector-copied : (file d s : List ℕ) (at from p a n : ℕ) → from ≡ connectorPlace p a n → s ≡ splice d at (part file from 36)
+    → s ≡ splice d at (fileConnector file p a n)
+unfolding fileConnector
+connector-copied file d s at from p a n e q = q ∙ rw e
+
+pub connector-length : (file : List ℕ) (p a n : ℕ) → connectorPlace p a n + 36 ≤ length file → length (fileConnector file p a n) ≡ 36
+unfolding fileConnector
+connector-length file p a n h = length-part file (connectorPlace p a n) 36 h

@@ -13,7 +13,8 @@ use Rattle.block.specs.Check.{blockAt, sound, soundTo}
 use Rattle.phy.specs.declared.Phy.{Phy}
 use Rattle.phy.specs.Block.{phyOf, zeroPhy}
 use Rattle.rows.specs.Row.{Row, rowOf, zeroRow}
-use Rattle.layout.specs.Layout.{phyCount, rowCount, phyBlock, rowPlace, blocks, fileLength}
+use Rattle.connectors.specs.Connector.{zeroConnector}
+use Rattle.layout.specs.Layout.{phyCount, rowCount, phyBlock, rowPlace, controllerPlace, statusPlace, connectorPlace, blocks, fileLength}
 use Rattle.layout.specs.Unnamed.{unnamedZero}
 use Rattle.adapter.specs.Adapter.{Adapter, zeroAdapter, countsHold, fieldsAll}
 
@@ -33,6 +34,10 @@ filePhy file n = phyOf (blockAt file (phyBlock n))
 unfoldable pub fileRow : List ℕ → ℕ → ℕ → Row
 fileRow file p i = rowOf file (rowPlace p i)
 
+-- phy n's connector, in a file with p phys and `a` rows (W-204)
+unfoldable pub fileConnector : List ℕ → ℕ → ℕ → ℕ → List ℕ
+fileConnector file p a n = part file (connectorPlace p a n) 36
+
 -- "The state is the level and what the file holds, zero past p and a"
 unfoldable pub adapterOf : List ℕ → ℕ → ℕ → Adapter
 adapterOf file p a =
@@ -42,6 +47,9 @@ adapterOf file p a =
       info = part file 4 174;
       phys = padded (filePhy file) p 32 zeroPhy;
       rows = padded (fileRow file p) a 64 zeroRow;
+      controller = part file (controllerPlace p a) 176;
+      status = part file (statusPlace p a) 36;
+      connectors = padded (fileConnector file p a) p 32 zeroConnector;
     }
 
 -- "A refused opening returns the zero state, p = 0"

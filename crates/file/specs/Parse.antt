@@ -3,8 +3,9 @@ use mathlib.Core.List.{List, [], _∷_}
 use Prim.Native.Nat.{ℕ}
 use Rattle.laws.specs.Flat.{pieces}
 use Rattle.laws.specs.Splice.{part, splice}
-use Rattle.layout.specs.Layout.{phyPlace, rowPlace}
-use Rattle.tables.specs.Tables.{infoStart}
+use Rattle.layout.specs.Layout.{phyPlace, rowPlace, controllerPlace}
+use Rattle.tables.specs.Tables.{infoStart, controllerStart}
+use Rattle.file.specs.File.{fileConnector}
 
 -- phy n's bytes in a file, and those of row i in a file with p phys
 unfoldable pub phyFrom : List ℕ → ℕ → List ℕ
@@ -13,7 +14,7 @@ phyFrom file n = part file (phyPlace n) 104
 unfoldable pub rowFrom : List ℕ → ℕ → ℕ → List ℕ
 rowFrom file p i = part file (rowPlace p i) 20
 
--- the tables with their counts and driver info; their phys; their rows
+-- the tables with their counts and driver info; their phys; their rows; with configuration and status, 212 bytes; their connectors
 unfoldable pub headed : List ℕ → List ℕ → ℕ → ℕ → List ℕ
 headed t file p a = splice (splice t 0 (p ∷ a ∷ [])) infoStart (part file 4 174)
 
@@ -22,3 +23,9 @@ physFrom file p = pieces (phyFrom file) p 104 32 0
 
 unfoldable pub rowsFrom : List ℕ → ℕ → ℕ → List ℕ
 rowsFrom file p a = pieces (rowFrom file p) a 20 64 0
+
+unfoldable pub controlled : List ℕ → List ℕ → ℕ → ℕ → List ℕ
+controlled t file p a = splice t controllerStart (part file (controllerPlace p a) 212)
+
+unfoldable pub connectorsFrom : List ℕ → ℕ → ℕ → List ℕ
+connectorsFrom file p a = pieces (fileConnector file p a) p 36 32 0

@@ -47,5 +47,5 @@ pub fn fill_rows(tables: &mut [u8], file: &[u8], p: usize, a: usize)
     requires { ⌜ length (now tables) ≡ tablesSize ⌝ }
     ensures { λ _. ⌜ now (tables .exit) ≡ splice (now (tables .entry)) rowsStart (rowsFrom (now (file .entry)) p a) ⌝ }
 {
-    put_rows(&mut tables[tables::ROWS..tables::SIZE], file, p, a);
+    put_rows(&mut tables[tables::ROWS..tables::CONTROLLER], file, p, a);
 }

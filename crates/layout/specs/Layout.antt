@@ -1,4 +1,4 @@
--- Where the blocks of phys and rows stand in an adapter file, and how long it is (document 01, "Adapter file"). Assumes nothing.
+-- Where the blocks of an adapter file stand, and how long it is (document 01, "Adapter file"; W-204). Assumes nothing.
 use mathlib.Core.List.{List}
 use Prim.Native.Nat.{ℕ, _+_, _-_, _*_, _/_, _%_, min}
 use lib.ListN.{getD}
@@ -32,9 +32,23 @@ rowBlockPlace p b = 512 * (1 + p + b)
 abbrev pub rowPlace : ℕ → ℕ → ℕ
 rowPlace p i = rowBlockPlace p (i / 25) + 20 * (i % 25)
 
--- "file length (1 + p + a/25 rounded up) × 512"
+-- "one block for the controller and status and one block for each phy's connector, after the rows" (W-204), and where they start
+abbrev pub controllerBlock : ℕ → ℕ → ℕ
+controllerBlock p a = 1 + p + rowBlocks a
+
+abbrev pub controllerPlace : ℕ → ℕ → ℕ
+controllerPlace p a = 512 * controllerBlock p a
+
+abbrev pub connectorPlace : ℕ → ℕ → ℕ → ℕ
+connectorPlace p a n = 512 * (controllerBlock p a + 1 + n)
+
+-- "Each structure stands from byte 0, status right after configuration", which has 176 bytes
+abbrev pub statusPlace : ℕ → ℕ → ℕ
+statusPlace p a = controllerPlace p a + 176
+
+-- the blocks of a file with p phys and `a` rows: 2 + 2p + a/25 rounded up; and its length
 abbrev pub blocks : ℕ → ℕ → ℕ
-blocks p a = 1 + p + rowBlocks a
+blocks p a = controllerBlock p a + 1 + p
 
 abbrev pub fileLength : ℕ → ℕ → ℕ
 fileLength p a = 512 * blocks p a

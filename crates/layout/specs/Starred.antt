@@ -1,4 +1,4 @@
--- The starred file lengths of document 01 ("Starred cases"): p = 4 with 25 and with 26 rows. Assumes nothing.
+-- The starred file lengths of document 01 ("Starred cases"): p = 4 with 25 and with 26 rows, as W-204 has them. Assumes nothing.
 use mathlib.Core.List.{List, [], _∷_}
 use Prim.Native.Nat.{ℕ}
 use Rattle.laws.specs.Cases.{Case}
@@ -9,4 +9,4 @@ abbrev lengthFor : ℕ → ℕ → ℕ → Case
 lengthFor p a n = record { gives = fileLength p a ∷ []; said = n ∷ [] }
 
 abbrev pub layoutCases : List Case
-layoutCases = lengthFor 4 25 3072 ∷ lengthFor 4 26 3584 ∷ []
+layoutCases = lengthFor 4 25 5632 ∷ lengthFor 4 26 6144 ∷ []

@@ -5,7 +5,7 @@ use Prim.Native.Nat.{ℕ, _+_, _-_, _*_}
 use Rattle.laws.specs.All.{allTo}
 use Rattle.laws.specs.Splice.{part}
 use Rattle.wire.specs.Same.{allZero}
-use Rattle.layout.specs.Layout.{phyPlace, rowBlocks, rowsIn, rowBlockPlace}
+use Rattle.layout.specs.Layout.{phyPlace, rowBlocks, rowsIn, rowBlockPlace, controllerPlace, connectorPlace}
 
 -- "Bytes not named, and bytes past the last row, are 0": bytes 2, 3 and 178 to 507 of block 0,
 unfoldable pub headZero : List ℕ → Bool
@@ -15,9 +15,21 @@ headZero file = allZero (part file 2 2) && allZero (part file 178 330)
 unfoldable pub phyBlockZero : List ℕ → ℕ → Bool
 phyBlockZero file n = allZero (part file (phyPlace n + 104) 404)
 
--- and what stands behind the rows in their block b
+-- what stands behind the rows in their block b,
 unfoldable pub rowBlockZero : List ℕ → ℕ → ℕ → ℕ → Bool
 rowBlockZero file p a b = allZero (part file (rowBlockPlace p b + 20 * rowsIn a b) (508 - 20 * rowsIn a b))
 
+-- and of W-204's blocks what stands behind configuration and status, 212 bytes, and behind a connector's 36
+unfoldable pub controllerBlockZero : List ℕ → ℕ → ℕ → Bool
+controllerBlockZero file p a = allZero (part file (controllerPlace p a + 212) 296)
+
+unfoldable pub connectorBlockZero : List ℕ → ℕ → ℕ → ℕ → Bool
+connectorBlockZero file p a n = allZero (part file (connectorPlace p a n + 36) 472)
+
 unfoldable pub unnamedZero : List ℕ → ℕ → ℕ → Bool
-unnamedZero file p a = headZero file && allTo (phyBlockZero file) p && allTo (rowBlockZero file p a) (rowBlocks a)
+unnamedZero file p a =
+    headZero file
+    && allTo (phyBlockZero file) p
+    && allTo (rowBlockZero file p a) (rowBlocks a)
+    && controllerBlockZero file p a
+    && allTo (connectorBlockZero file p a) p

@@ -3,6 +3,8 @@ mod place;
 mod unnamed;
 
 pub use place::block_count;
+pub use place::connector_place;
+pub use place::controller_place;
 pub use place::phy_place;
 pub use place::row_place;
 pub use unnamed::unnamed_zero;

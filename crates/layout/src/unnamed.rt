@@ -5,7 +5,7 @@ ghost use Prim.Native.Nat.{_+_, _*_, _≤_, _<_};
 ghost use lib.ListN.{length};
 ghost use Rattle.laws.specs.All.{allTo};
 ghost use Rattle.layout.specs.Layout.{rowBlocks, rowsIn, fileLength};
-ghost use Rattle.layout.specs.Unnamed.{headZero, phyBlockZero, rowBlockZero, unnamedZero};
+ghost use Rattle.layout.specs.Unnamed.{headZero, phyBlockZero, rowBlockZero, controllerBlockZero, connectorBlockZero, unnamedZero};
 
 // The unnamed bytes of block 0 are 0.
 fn head_zero(file: &[u8]) -> bool
@@ -72,10 +72,45 @@ fn row_blocks_zero(file: &[u8], p: usize, a: usize, n: usize) -> bool
     true
 }
 
+// The bytes behind configuration and status are 0.
+fn controller_block_zero(file: &[u8], p: usize, a: usize) -> bool
+    requires { ⌜ (p ≤ 32) × (a ≤ 64) × (length (now file) ≡ fileLength p a) ⌝ }
+    ensures { λ r. ⌜ r ≡ controllerBlockZero (now (file .entry)) p a ⌝ }
+{
+    wire::zero_at(file, place::controller_place(p, a) + 212, 296)
+}
+
+// The bytes behind phy n's connector are 0.
+fn connector_block_zero(file: &[u8], p: usize, a: usize, n: usize) -> bool
+    requires { ⌜ (p ≤ 32) × (a ≤ 64) × (n < p) × (length (now file) ≡ fileLength p a) ⌝ }
+    ensures { λ r. ⌜ r ≡ connectorBlockZero (now (file .entry)) p a n ⌝ }
+{
+    wire::zero_at(file, place::connector_place(p, a, n) + 36, 472)
+}
+
+fn connector_blocks_zero(file: &[u8], p: usize, a: usize) -> bool
+    requires { ⌜ (p ≤ 32) × (a ≤ 64) × (length (now file) ≡ fileLength p a) ⌝ }
+    ensures { λ r. ⌜ r ≡ allTo (connectorBlockZero (now (file .entry)) p a) p ⌝ }
+{
+    let mut k = 0;
+    while k < p {
+        if connector_block_zero(file, p, a, k) {
+            k += 1;
+        } else {
+            return false;
+        }
+    }
+    true
+}
+
 pub fn unnamed_zero(file: &[u8], p: usize, a: usize) -> bool
     requires { ⌜ (p ≤ 32) × (a ≤ 64) × (length (now file) ≡ fileLength p a) ⌝ }
     ensures { λ r. ⌜ r ≡ unnamedZero (now (file .entry)) p a ⌝ }
 {
     let n = place::row_blocks(a);
-    head_zero(file) & phy_blocks_zero(file, p) & row_blocks_zero(file, p, a, n)
+    head_zero(file)
+        & phy_blocks_zero(file, p)
+        & row_blocks_zero(file, p, a, n)
+        & controller_block_zero(file, p, a)
+        & connector_blocks_zero(file, p, a)
 }

@@ -13,9 +13,10 @@ use Rattle.wire.proofs.ZeroLaws.{zero-split, zero-none, zero-one, zero-number, 
 use Rattle.phy.specs.Block.{countersAt, phyOf}
 use Rattle.fields.specs.Rules.{phyZero}
 use Rattle.rows.specs.Row.{zeroFrom, rowsOf, rowsSize}
+use Rattle.connectors.specs.Connector.{connectorsSize, connectorsOf, pinoutsHold, connectorsPast}
 use Rattle.adapter.specs.Adapter.{Adapter, phyIn, zeroPast}
-use Rattle.tables.specs.Tables.{tablesSize, phyStart, rowsStart, phyAt, tablesOf}
-use Rattle.tables.proofs.Laws.{phy-in, rows-in}
+use Rattle.tables.specs.Tables.{tablesSize, phyStart, rowsStart, connectorsStart, phyAt, tablesOf}
+use Rattle.tables.proofs.Laws.{phy-in, rows-in, connectors-in}
 use Rattle.rules.specs.Past.{physPast}
 
 -- ---- a phy is zero where its bytes are
@@ -66,8 +67,18 @@ pub rows-past-lent : (t : List ℕ) (a : ℕ) (r : Bool) → r ≡ zeroFrom (row
 unfolding part
 rows-past-lent t a r q = q ∙ rw (rows-in t)
 
--- both
-pub past-by : (ad : Adapter) (p a : ℕ) (r s : Bool) → p ≡ ad .«phy_count» → a ≡ ad .«row_count» → r ≡ physPast (ad .phys) p
-    → s ≡ zeroFrom (ad .rows) a → r && s ≡ zeroPast ad
+pub connectors-past-lent : (t : List ℕ) (p : ℕ) (r : Bool) → r ≡ connectorsPast (connectorsOf (take connectorsSize (drop connectorsStart t))) p
+    → r ≡ connectorsPast (tablesOf t .connectors) p
+unfolding part
+connectors-past-lent t p r q = q ∙ rw (connectors-in t)
+
+pub pinouts-lent : (t : List ℕ) (p : ℕ) (r : Bool) → r ≡ pinoutsHold (connectorsOf (take connectorsSize (drop connectorsStart t))) p
+    → r ≡ pinoutsHold (tablesOf t .connectors) p
+unfolding part
+pinouts-lent t p r q = q ∙ rw (connectors-in t)
+
+-- all three
+pub past-by : (ad : Adapter) (p a : ℕ) (r s c : Bool) → p ≡ ad .«phy_count» → a ≡ ad .«row_count» → r ≡ physPast (ad .phys) p
+    → s ≡ zeroFrom (ad .rows) a → c ≡ connectorsPast (ad .connectors) p → r && s && c ≡ zeroPast ad
 unfolding zeroPast physPast
-past-by ad p a r s e f q k = rw (q, k, e, f)
+past-by ad p a r s c e f q k l = rw (q, k, l, e, f)

@@ -1,11 +1,12 @@
-// The field rules of all phys, and "zero past p and a", over the tables that the caller lends (document 01, "Adapter file" and "From the
-// state").
+// The field rules of all phys and connectors, and "zero past p and a", over the tables that the caller lends (document 01, "Adapter file" and
+// "From the state"; W-204).
 use phy::PhyIdentifier;
 ghost use mathlib.Core.Path.{_≡_};
 ghost use Prim.Native.Nat.{_<_, _≤_};
 ghost use lib.ListN.{length};
 ghost use Rattle.fields.specs.Rules.{fieldsHold};
 ghost use Rattle.rows.specs.Row.{zeroFrom};
+ghost use Rattle.connectors.specs.Connector.{pinoutsHold, connectorsPast};
 ghost use Rattle.adapter.specs.Adapter.{FewPhys, FewRows, phyIn, fieldsAll, zeroPast};
 ghost use Rattle.tables.specs.Tables.{tablesSize, tablesOf};
 ghost use Rattle.rules.specs.Past.{physPast};
@@ -35,13 +36,22 @@ fn phys_hold(tables: &[u8], p: u8) -> bool
     true
 }
 
-// Each phy below p passes the field rules.
+// The pinouts of the first p connectors.
+fn connectors_hold(tables: &[u8], p: usize) -> bool
+    requires { ⌜ (p ≤ 32) × (length (now tables) ≡ tablesSize) ⌝ }
+    ensures { λ r. ⌜ r ≡ pinoutsHold (tablesOf (now (tables .entry)) .connectors) p ⌝ }
+{
+    connectors::pinouts_hold(&tables[tables::CONNECTORS..tables::SIZE], p)
+}
+
+// Each phy below p passes the field rules, and its connector.
 pub fn all_fields_hold(tables: &[u8]) -> bool
     requires { ⌜ length (now tables) ≡ tablesSize ⌝ }
     requires { ⌜ FewPhys (tablesOf (now tables)) ⌝ }
     ensures { λ r. ⌜ r ≡ fieldsAll (tablesOf (now (tables .entry))) ⌝ }
 {
-    phys_hold(tables, tables::phy_count(tables))
+    let p = tables::phy_count(tables);
+    phys_hold(tables, p) & connectors_hold(tables, p as usize)
 }
 
 // The phys from p on are zero: one test of their bytes.
@@ -56,15 +66,24 @@ fn rows_zero_from(tables: &[u8], a: usize) -> bool
     requires { ⌜ (a ≤ 64) × (length (now tables) ≡ tablesSize) ⌝ }
     ensures { λ r. ⌜ r ≡ zeroFrom (tablesOf (now (tables .entry)) .rows) a ⌝ }
 {
-    rows::zero_from(&tables[tables::ROWS..tables::SIZE], a)
+    rows::zero_from(&tables[tables::ROWS..tables::CONTROLLER], a)
 }
 
-// Every phy from p on and every row from a on is zero.
+fn connectors_zero_from(tables: &[u8], p: usize) -> bool
+    requires { ⌜ (p ≤ 32) × (length (now tables) ≡ tablesSize) ⌝ }
+    ensures { λ r. ⌜ r ≡ connectorsPast (tablesOf (now (tables .entry)) .connectors) p ⌝ }
+{
+    connectors::zero_from(&tables[tables::CONNECTORS..tables::SIZE], p)
+}
+
+// Every phy and connector from p on and every row from a on is zero.
 pub fn zero_past(tables: &[u8]) -> bool
     requires { ⌜ length (now tables) ≡ tablesSize ⌝ }
     requires { ⌜ FewPhys (tablesOf (now tables)) × FewRows (tablesOf (now tables)) ⌝ }
     ensures { λ r. ⌜ r ≡ zeroPast (tablesOf (now (tables .entry))) ⌝ }
 {
-    phys_zero_from(tables, tables::phy_count(tables) as usize)
+    let p = tables::phy_count(tables) as usize;
+    phys_zero_from(tables, p)
         & rows_zero_from(tables, tables::row_count(tables) as usize)
+        & connectors_zero_from(tables, p)
 }

@@ -15,13 +15,27 @@ use Rattle.phy.specs.declared.PortIdentifier.{PortIdentifier}
 use Rattle.phy.specs.Block.{noPhy, phyOf}
 use Rattle.phy.specs.Entity.{byteOf, portOf}
 use Rattle.rows.specs.Row.{rowsSize, rowsOf}
+use Rattle.connectors.specs.Connector.{connectorsSize, connectorsOf}
 use Rattle.adapter.specs.Adapter.{phyIn}
-use Rattle.tables.specs.Tables.{tablesSize, phyStart, rowsStart, phyAt, tablesOf}
+use Rattle.tables.specs.Tables.{tablesSize, phyStart, rowsStart, controllerStart, statusStart, connectorsStart, phyAt, tablesOf}
 
 -- the rows
 pub rows-in : (t : List ℕ) → tablesOf t .rows ≡ rowsOf (part t rowsStart rowsSize)
 unfolding tablesOf
 rows-in t = refl
+
+-- configuration, status and the connectors
+pub controller-in : (t : List ℕ) → tablesOf t .controller ≡ part t controllerStart 176
+unfolding tablesOf
+controller-in t = refl
+
+pub status-in : (t : List ℕ) → tablesOf t .status ≡ part t statusStart 36
+unfolding tablesOf
+status-in t = refl
+
+pub connectors-in : (t : List ℕ) → tablesOf t .connectors ≡ connectorsOf (part t connectorsStart connectorsSize)
+unfolding tablesOf
+connectors-in t = refl
 
 -- phy n
 pub phy-in : (t : List ℕ) (n : ℕ) → n < 32 → phyIn (tablesOf t) n ≡ phyAt t n

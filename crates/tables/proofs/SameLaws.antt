@@ -15,11 +15,13 @@ use Rattle.wire.proofs.NumberLaws.{Bytes, bytes-part, word-back}
 use Rattle.phy.specs.Block.{phyOf, countersAt}
 use Rattle.rows.specs.Row.{rowsSize}
 use Rattle.rows.proofs.SameLaws.{rows-same}
+use Rattle.connectors.specs.Connector.{connectorsSize}
+use Rattle.connectors.proofs.Laws.{connectors-same}
 use Rattle.adapter.specs.Adapter.{Adapter, phyIn}
 use Rattle.tables.specs.PhyBytes.{counterBytes}
 use Rattle.tables.proofs.PhyBytesLaws.{phyBytes}
-use Rattle.tables.specs.Tables.{tablesSize, phyStart, rowsStart, phyAt, tablesOf}
-use Rattle.tables.proofs.Laws.{phy-in, rows-in}
+use Rattle.tables.specs.Tables.{tablesSize, phyStart, rowsStart, controllerStart, statusStart, connectorsStart, phyAt, tablesOf}
+use Rattle.tables.proofs.Laws.{phy-in, rows-in, controller-in, status-in, connectors-in}
 use Rattle.tables.proofs.StoredLaws.{four}
 
 -- ---- a phy's bytes, read and written back
@@ -61,6 +63,17 @@ module _ (t u : List ℕ) (p : length t ≡ tablesSize) (q : length u ≡ tables
       rows-same (part t rowsStart rowsSize) (part u rowsStart rowsSize) (length-part t rowsStart rowsSize (omega arith)) (length-part u rowsStart rowsSize (omega arith))
       (sym (rows-in t) ∙ ap (λ (a : Adapter). a .rows) e ∙ rows-in u)
 
+  controller-here : part t controllerStart 176 ≡ part u controllerStart 176
+  controller-here = sym (controller-in t) ∙ ap (λ (a : Adapter). a .controller) e ∙ controller-in u
+
+  status-here : part t statusStart 36 ≡ part u statusStart 36
+  status-here = sym (status-in t) ∙ ap (λ (a : Adapter). a .status) e ∙ status-in u
+
+  connectors-here : part t connectorsStart connectorsSize ≡ part u connectorsStart connectorsSize
+  connectors-here =
+      connectors-same (part t connectorsStart connectorsSize) (part u connectorsStart connectorsSize) (length-part t connectorsStart connectorsSize (omega arith)) (length-part u connectorsStart connectorsSize (omega arith))
+      (sym (connectors-in t) ∙ ap (λ (a : Adapter). a .connectors) e ∙ connectors-in u)
+
   -- equal parts, byte by byte
   byte-in : (at n i : ℕ) → part t at n ≡ part u at n → i < n → getD t (at + i) 0 ≡ getD u (at + i) 0
   byte-in at n i s l = sym (getD-part t at n i 0 l) ∙ ap (λ (x : List ℕ). getD x i 0) s ∙ getD-part u at n i 0 l
@@ -80,22 +93,27 @@ module _ (t u : List ℕ) (p : length t ≡ tablesSize) (q : length u ≡ tables
       let s : phyStart (j / 104) + j % 104 ≡ 176 + j = omega arith in
       rw s at (byte-in (phyStart (j / 104)) 104 (j % 104) (phy-same (j / 104) (omega arith)) (omega arith))
 
-  in-rows : (j : ℕ) → j < 1280 → Same (3504 + j)
-  in-rows j l = byte-in 3504 1280 j rows-here l
+  -- a byte of a part that starts at `at` and has n bytes, by where it stands
+  within : (at n i : ℕ) → part t at n ≡ part u at n → at ≤ i → i < at + n → Same i
+  within at n i s l m =
+      let d : at + (i - at) ≡ i = omega arith in
+      rw d at (byte-in at n (i - at) s (omega arith))
+
+  -- one side of a place or the other
+  split : (i k : ℕ) → (i < k → Same i) → (k ≤ i → Same i) → Same i
+  split i k below above =
+      by-bool (λ (c : Bool). ltb i k ≡ c → Same i) (λ c. below (ltb-true i k c)) (λ c. above (ltb-false i k c)) (ltb i k) refl
 
   pub tables-same : t ≡ u
   tables-same = ext-getD 0 t u (p ∙ sym q) (λ i l. at i (rw p at l))
     where
       at : (i : ℕ) → i < tablesSize → Same i
       at i l =
-          by-bool (λ (c : Bool). ltb i 176 ≡ c → Same i) (λ c. in-head i (ltb-true i 176 c))
-          (λ c. let m : 176 ≤ i = ltb-false i 176 c in
-          by-bool (λ (d : Bool). ltb i 3504 ≡ d → Same i)
-          (λ d. let y : i < 3504 = ltb-true i 3504 d in
-          let s : 176 + (i - 176) ≡ i = omega arith in
+          split i 176 (in-head i)
+          (λ a. split i rowsStart
+          (λ b. let s : 176 + (i - 176) ≡ i = omega arith in
           rw s at (in-phys (i - 176) (omega arith)))
-          (λ d. let y : 3504 ≤ i = ltb-false i 3504 d in
-          let s : 3504 + (i - 3504) ≡ i = omega arith in
-          rw s at (in-rows (i - 3504) (omega arith)))
-          (ltb i 3504) refl)
-          (ltb i 176) refl
+          (λ b. split i controllerStart (λ c. within rowsStart rowsSize i rows-here b (omega arith))
+          (λ c. split i statusStart (λ d. within controllerStart 176 i controller-here c (omega arith))
+          (λ d. split i connectorsStart (λ f. within statusStart 36 i status-here d (omega arith))
+          (λ f. within connectorsStart connectorsSize i connectors-here f (omega arith))))))

@@ -3,7 +3,7 @@ use mathlib.Core.Path.{_≡_, refl, sym, _∙_, ap}
 use mathlib.Core.Logic.{_≢_}
 use mathlib.Core.Bool.{Bool}
 use mathlib.Core.List.{List, [], _∷_, _++_, append-assoc}
-use Prim.Native.Nat.{ℕ, _+_, _-_, _<_}
+use Prim.Native.Nat.{ℕ, _+_, _-_, _<_, _≤_}
 use native.Mathlib.Omega.{arith}
 use lib.Dec.{ltb}
 use lib.ListN.{length, getD, set, take, drop, length-append}
@@ -18,10 +18,11 @@ use Rattle.wire.proofs.NumberLaws.{length-bytes, number-bytes}
 use Rattle.phy.specs.declared.Phy.{Phy}
 use Rattle.phy.specs.Block.{phyOf, noPhy, countersAt}
 use Rattle.rows.specs.Row.{rowsSize}
+use Rattle.connectors.specs.Connector.{connectorsSize}
 use Rattle.adapter.specs.Adapter.{withPhy}
 use Rattle.tables.specs.PhyBytes.{counterBytes, lastBytes, written}
 use Rattle.tables.proofs.PhyBytesLaws.{phyBytes}
-use Rattle.tables.specs.Tables.{tablesSize, phyStart, rowsStart, phyAt, tablesOf}
+use Rattle.tables.specs.Tables.{tablesSize, phyStart, rowsStart, controllerStart, statusStart, connectorsStart, phyAt, tablesOf}
 
 -- ---- a store of 104 bytes at phy n's place
 
@@ -40,11 +41,24 @@ module _ (t b : List ℕ) (n : ℕ) (size : length t ≡ tablesSize) (h : n < 32
       (λ p. part-above t (phyStart n) b (phyStart i) 104 (omega arith) (omega (arith, ltb-false i n p)))
       (ltb i n) refl)
 
+  -- what stands behind the phys
+  behind : (at m : ℕ) → rowsStart ≤ at → part after at m ≡ part t at m
+  behind at m l = part-above t (phyStart n) b at m (omega arith) (omega arith)
+
   -- the tables after it are those before with another phy n
   tables-stored : (phy : Phy) → phyOf b ≡ phy → tablesOf after ≡ withPhy (tablesOf t) n phy
   unfolding tablesOf withPhy
   tables-stored phy q =
-      rw (get-below t (phyStart n) b 0 0 (omega arith) (omega arith), get-below t (phyStart n) b 1 0 (omega arith) (omega arith), part-below t (phyStart n) b 2 174 (omega arith) (omega arith), listTo-set (phyAt t) (phyAt after) 32 n phy noPhy h (phy-here ∙ q) phy-there, part-above t (phyStart n) b rowsStart rowsSize (omega arith) (omega arith))
+      rw (
+        get-below t (phyStart n) b 0 0 (omega arith) (omega arith),
+        get-below t (phyStart n) b 1 0 (omega arith) (omega arith),
+        part-below t (phyStart n) b 2 174 (omega arith) (omega arith),
+        listTo-set (phyAt t) (phyAt after) 32 n phy noPhy h (phy-here ∙ q) phy-there,
+        behind rowsStart rowsSize (omega arith),
+        behind controllerStart 176 (omega arith),
+        behind statusStart 36 (omega arith),
+        behind connectorsStart connectorsSize (omega arith),
+      )
 
 -- ---- what a phy's bytes read back as
 

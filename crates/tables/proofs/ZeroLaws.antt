@@ -9,8 +9,10 @@ use Rattle.laws.specs.Splice.{part, part-replicate}
 use Rattle.wire.specs.Number.{number}
 use Rattle.phy.specs.Block.{countersAt, phyOf, zeroPhy}
 use Rattle.rows.specs.Row.{rowOf, rowsSize, rowStart, rowsOf, zeroRow}
+use Rattle.connectors.specs.Connector.{connectorsSize, connectorsOf, zeroConnector}
+use Rattle.connectors.proofs.Laws.{zero-connectors}
 use Rattle.adapter.specs.Adapter.{zeroAdapter}
-use Rattle.tables.specs.Tables.{tablesSize, phyStart, rowsStart, phyAt, tablesOf}
+use Rattle.tables.specs.Tables.{tablesSize, phyStart, rowsStart, controllerStart, statusStart, connectorsStart, phyAt, tablesOf}
 
 -- a phy and a row
 pub phy-zeros : phyOf (zeros 104) ≡ zeroPhy
@@ -37,9 +39,14 @@ rows-zeros =
     ap rowsOf (part-replicate tablesSize rowsStart rowsSize 0 (omega arith))
     ∙ all-same (λ (i : ℕ). rowOf (zeros rowsSize) (rowStart i)) 64 zeroRow (λ i l. row-zeros rowsSize (rowStart i) (omega arith))
 
+connectors-zeros : connectorsOf (part (zeros tablesSize) connectorsStart connectorsSize) ≡ replicate 32 zeroConnector
+connectors-zeros = ap connectorsOf (part-replicate tablesSize connectorsStart connectorsSize 0 (omega arith)) ∙ zero-connectors
+
 pub zero-tables : tablesOf (zeros tablesSize) ≡ zeroAdapter
 unfolding tablesOf zeroAdapter
 zero-tables =
     let p = getD-replicate {A = ℕ} tablesSize 0 0 0 (omega arith) in
     let a = getD-replicate {A = ℕ} tablesSize 1 0 0 (omega arith) in
-    cc (phys-zeros, rows-zeros, part-replicate {A = ℕ} tablesSize 2 174 0 (omega arith))
+    let c = part-replicate {A = ℕ} tablesSize controllerStart 176 0 (omega arith) in
+    let s = part-replicate {A = ℕ} tablesSize statusStart 36 0 (omega arith) in
+    cc (phys-zeros, rows-zeros, connectors-zeros, part-replicate {A = ℕ} tablesSize 2 174 0 (omega arith))

@@ -1,6 +1,7 @@
 -- The tables and counters that lent bytes stand for (document 01, "The state is the level and what the file holds, zero past p and a"; the
--- level stands before them, apart). 4,784 bytes, each of them named here: p, a, the driver info, 32 phys of 104 bytes, each as the first 104 of its
--- block in the adapter file, and 64 rows of 20. Every list of that length stands for an adapter. Assumes nothing.
+-- level stands before them, apart). 6,148 bytes, each of them named here: p, a, the driver info, 32 phys of 104 bytes, each as the first 104 of its
+-- block in the adapter file, 64 rows of 20, and of W-204 the controller's configuration and status and 32 connectors of 36. Every list of that
+-- length stands for an adapter. Assumes nothing.
 use mathlib.Core.List.{List}
 use Prim.Native.Nat.{ℕ, _+_, _*_}
 use lib.ListN.{getD}
@@ -9,12 +10,13 @@ use Rattle.laws.specs.Splice.{part}
 use Rattle.phy.specs.declared.Phy.{Phy}
 use Rattle.phy.specs.Block.{phyOf}
 use Rattle.rows.specs.Row.{rowsSize, rowsOf}
+use Rattle.connectors.specs.Connector.{connectorsSize, connectorsOf}
 use Rattle.adapter.specs.Adapter.{Adapter}
 
 abbrev pub tablesSize : ℕ
-tablesSize = 4784
+tablesSize = 6148
 
--- where the driver info, phy n and the rows start
+-- where the driver info, phy n, the rows, configuration, status and the connectors start
 abbrev pub infoStart : ℕ
 infoStart = 2
 
@@ -23,6 +25,15 @@ phyStart n = 176 + 104 * n
 
 abbrev pub rowsStart : ℕ
 rowsStart = 3504
+
+abbrev pub controllerStart : ℕ
+controllerStart = 4784
+
+abbrev pub statusStart : ℕ
+statusStart = 4960
+
+abbrev pub connectorsStart : ℕ
+connectorsStart = 4996
 
 -- phy n of the bytes
 unfoldable pub phyAt : List ℕ → ℕ → Phy
@@ -37,4 +48,7 @@ tablesOf t =
       info = part t infoStart 174;
       phys = listTo (phyAt t) 32;
       rows = rowsOf (part t rowsStart rowsSize);
+      controller = part t controllerStart 176;
+      status = part t statusStart 36;
+      connectors = connectorsOf (part t connectorsStart connectorsSize);
     }

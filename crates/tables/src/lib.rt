@@ -11,14 +11,21 @@ ghost use lib.Dec.{ltb};
 ghost use lib.ListN.{length};
 ghost use Rattle.tables.specs.Tables.{tablesSize, tablesOf};
 
-// How many bytes the tables have, and where the driver info, the phys and the rows start.
-pub const SIZE: usize = 4784;
+// How many bytes the tables have, and where the driver info, the phys, the rows, the controller's configuration and status and the
+// connectors start.
+pub const SIZE: usize = 6148;
 
 pub const INFO: usize = 2;
 
 pub const PHYS: usize = 176;
 
 pub const ROWS: usize = 3504;
+
+pub const CONTROLLER: usize = 4784;
+
+pub const STATUS: usize = 4960;
+
+pub const CONNECTORS: usize = 4996;
 
 pub fn phy_count(tables: &[u8]) -> u8
     requires { ⌜ length (now tables) ≡ tablesSize ⌝ }

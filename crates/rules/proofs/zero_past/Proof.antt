@@ -8,4 +8,4 @@ pub zero-past-spec : {M : Type 1} → statement M
 zero-past-spec =
     tie.close
     (tie.spec (λ c κs. search needs) (λ c. search needs) (λ c κs. search needs) (λ c κs. search needs) (λ c. search needs)
-    (λ c κs. search needs) (λ c. search (past-by, needs)))
+    (λ c κs. search needs) (λ c κs. search needs) (λ c. search (past-by, needs)))

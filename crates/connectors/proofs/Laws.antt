@@ -1,0 +1,77 @@
+-- What the bytes say of the connectors: laws for the layers above, which open no definition of Connector.antt. Assumes nothing.
+use mathlib.Core.Path.{_≡_, refl, sym, _∙_, ap}
+use mathlib.Core.Bool.{Bool, true, _&&_}
+use mathlib.Core.List.{List, [], _++_}
+use Prim.Native.Nat.{ℕ, zero, suc, _+_, _-_, _*_, _/_, _%_, _<_, _≤_}
+use native.Mathlib.Nat.{mul-suc, add-zero, zero-add}
+use native.Mathlib.Omega.{arith}
+use lib.Dec.{eqb, ltb}
+use lib.ListN.{length, getD, replicate}
+use lib.Seq.{ext-getD}
+use Rattle.laws.specs.All.{all-by}
+use Rattle.laws.specs.Clear.{zeros}
+use Rattle.laws.specs.Fill.{listTo, getD-listTo, length-listTo, padded-none, filled-as}
+use Rattle.laws.specs.Flat.{flatTo}
+use Rattle.laws.specs.Splice.{part, length-part, getD-part, part-add, part-replicate}
+use Rattle.wire.specs.Same.{allZero}
+use Rattle.wire.proofs.SameLaws.{same-refl}
+use Rattle.wire.proofs.ZeroLaws.{zero-run}
+use Rattle.connectors.specs.Connector.{connectorsSize, connectorStart, connectorOf, connectorsOf, zeroConnector, connectorAt, pinoutHolds, connectorsPast}
+
+-- connector n, and a byte of it
+pub connector-in : (b : List ℕ) (n : ℕ) → n < 32 → connectorAt (connectorsOf b) n ≡ part b (connectorStart n) 36
+unfolding connectorsOf connectorOf
+connector-in b n h = getD-listTo (connectorOf b) 32 n [] h
+
+pub connector-byte : (b : List ℕ) (n i : ℕ) → n < 32 → i < 36 → getD (connectorAt (connectorsOf b) n) i 0 ≡ getD b (connectorStart n + i) 0
+connector-byte b n i h k = ap (λ (c : List ℕ). getD c i 0) (connector-in b n h) ∙ getD-part b (connectorStart n) 36 i 0 k
+
+-- the pinout's rule, by the bytes
+pub pinout-by : (b : List ℕ) (n at : ℕ) → n < 32 → at ≡ connectorStart n
+    → ltb (getD b at 0) 4 && ltb (getD b (at + 1) 0) 16 && ltb (getD b (at + 2) 0) 16 && eqb (getD b (at + 3) 0) 0 ≡ pinoutHolds (connectorAt (connectorsOf b) n)
+unfolding pinoutHolds
+pinout-by b n at h e =
+    let g : (i : ℕ) → i < 36 → getD b (at + i) 0 ≡ getD (connectorAt (connectorsOf b) n) i 0 = λ i l. rw e (sym (connector-byte b n i h l)) in
+    let z : getD b at 0 ≡ getD (connectorAt (connectorsOf b) n) 0 0 = rw add-zero at (g 0 (omega arith)) in
+    rw (z, g 1 (omega arith), g 2 (omega arith), g 3 (omega arith)) refl
+
+-- the connectors from p on, by one test of their bytes
+pub connectors-past : (b : List ℕ) (p : ℕ) (r : Bool) → length b ≡ connectorsSize → p ≤ 32 → r ≡ allZero (part b (36 * p) (36 * (32 - p)))
+    → r ≡ connectorsPast (connectorsOf b) p
+unfolding connectorsPast
+connectors-past b p r n h q =
+    q
+    ∙ zero-run (λ (i : ℕ). allZero (connectorAt (connectorsOf b) (p + i))) b (36 * p) 36 (32 - p) (omega arith)
+    (λ i l. let e : 36 * p + 36 * i ≡ connectorStart (p + i) = omega arith in rw (e, connector-in b (p + i) (omega arith)) refl)
+
+pub past-by-zero : (connectors : List (List ℕ)) (p : ℕ) → ((i : ℕ) → p ≤ i → i < 32 → connectorAt connectors i ≡ zeroConnector)
+    → connectorsPast connectors p ≡ true
+unfolding connectorsPast allZero
+past-by-zero connectors p h =
+    all-by (λ (i : ℕ). allZero (connectorAt connectors (p + i))) (32 - p) (λ i l. ap allZero (h (p + i) (omega arith) (omega arith)) ∙ same-refl zeroConnector)
+
+-- the first p one behind the other are the first bytes
+pub connectors-flat : (b : List ℕ) (p : ℕ) → p ≤ 32 → flatTo (connectorAt (connectorsOf b)) p ≡ part b 0 (36 * p)
+unfolding flatTo part
+connectors-flat b zero h = refl
+connectors-flat b (suc p) h =
+    rw (mul-suc, connectors-flat b p (omega arith), connector-in b p (omega arith)) (sym (part-add b 0 (36 * p) 36 ∙ rw zero-add refl))
+
+-- bytes that are 0
+pub zero-connectors : connectorsOf (zeros connectorsSize) ≡ replicate 32 zeroConnector
+unfolding connectorsOf connectorOf
+zero-connectors =
+    filled-as (connectorOf (zeros connectorsSize)) (connectorOf (zeros connectorsSize)) 0 32 zeroConnector [] (omega arith) (λ i l. refl)
+    (λ i k l. part-replicate connectorsSize (connectorStart i) 36 0 (omega arith))
+    ∙ sym (padded-none (connectorOf (zeros connectorsSize)) 32 zeroConnector)
+
+-- the bytes are given by what they stand for
+module _ (b c : List ℕ) (p : length b ≡ connectorsSize) (q : length c ≡ connectorsSize) (e : connectorsOf b ≡ connectorsOf c) where
+  in-connector : (j : ℕ) → j < connectorsSize → getD b j 0 ≡ getD c j 0
+  in-connector j l =
+      let s : connectorStart (j / 36) + j % 36 ≡ j = omega arith in
+      rw s at (sym (connector-byte b (j / 36) (j % 36) (omega arith) (omega arith)) ∙ ap (λ (x : List (List ℕ)). getD (connectorAt x (j / 36)) (j % 36) 0) e
+      ∙ connector-byte c (j / 36) (j % 36) (omega arith) (omega arith))
+
+  pub connectors-same : b ≡ c
+  connectors-same = ext-getD 0 b c (p ∙ sym q) (λ i l. in-connector i (rw p at l))

@@ -1,0 +1,10 @@
+-- What is proved of the definitions in specs/Pinout.antt. Assumes nothing.
+use mathlib.Core.Path.{refl}
+use Rattle.laws.specs.Fill.{listTo}
+use Rattle.wire.specs.Number.{bytes}
+use Rattle.connectors.specs.Connector.{pinoutHolds}
+use Rattle.connectors.specs.Pinout.{isPinout, bitAt, PinoutBits}
+
+pub pinout-bits : PinoutBits
+unfolding listTo bytes pinoutHolds isPinout bitAt
+pinout-bits = refl

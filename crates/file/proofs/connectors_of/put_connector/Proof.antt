@@ -1,0 +1,10 @@
+-- `file::connectors_of::put_connector` meets its contract. Assumes nothing.
+use Rattle.file.proofs.ParseLaws.{connector-copied, connector-length}
+use borrow.Author.Needs.{needs}
+use Rattle.file.proofs.connectors_of.put_connector.Statement.{statement}
+use Rattle.file.proofs.connectors_of.put_connector.Tie as tie
+
+pub put-connector-spec : {M : Type 1} → statement M
+put-connector-spec =
+    tie.close
+    (tie.spec (λ c κs. search needs) (λ c κs. search needs) (λ c. search needs) (λ c. search (connector-copied, connector-length, needs)))
