@@ -8,7 +8,7 @@ use native.Mathlib.Omega.{arith}
 use lib.Dec.{eqb}
 use lib.ListN.{getD}
 use Rattle.laws.specs.Choice.{by-bool, either}
-use Rattle.codes.specs.Codes.{getDriverInfo, getPhyInfo, setPhyInfo, getLinkErrors, stpPassthru, getSataSignature, getScsiAddress, getDeviceAddress, resetPlace, linkErrorResetCounts}
+use Rattle.codes.specs.Codes.{getDriverInfo, getCntlrConfig, getCntlrStatus, getPhyInfo, setPhyInfo, getLinkErrors, stpPassthru, getSataSignature, getScsiAddress, getDeviceAddress, getConnectorInfo, resetPlace, linkErrorResetCounts}
 use Rattle.level.specs.declared.Level.{Level}
 use Rattle.level.specs.Text.{restricted, full}
 use Rattle.level.proofs.BoundLaws.{need-bound, write-need}
@@ -37,13 +37,16 @@ pub need-full : (control : ℕ) (body : List ℕ) → need control body .0 ≤ f
 unfolding need linkErrorsNeed
 need-full control body =
     either Within (eqb control getDriverInfo) (omega arith)
+    (either Within (eqb control getCntlrConfig) (omega arith)
+    (either Within (eqb control getCntlrStatus) (omega arith)
     (either Within (eqb control getPhyInfo) (omega arith)
     (either Within (eqb control setPhyInfo) (omega arith)
     (either Within (eqb control getLinkErrors) (either Within (eqb (getD body resetPlace 0) linkErrorResetCounts) (omega arith) (omega arith))
     (either Within (eqb control stpPassthru) (need-bound (command body))
     (either Within (eqb control getSataSignature) (omega arith)
     (either Within (eqb control getScsiAddress) (omega arith)
-    (either Within (eqb control getDeviceAddress) (omega arith) (omega arith))))))))
+    (either Within (eqb control getDeviceAddress) (omega arith)
+    (either Within (eqb control getConnectorInfo) (omega arith) (omega arith)))))))))))
   where
     Within : Level → Type 0
     Within l = l .0 ≤ full .0

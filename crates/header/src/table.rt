@@ -11,6 +11,8 @@ pub fn is_known(control: u32) -> bool
     ensures { λ r. ⌜ r ≡ known control ⌝ }
 {
     (control == codes::GET_DRIVER_INFO)
+        | (control == codes::GET_CNTLR_CONFIG)
+        | (control == codes::GET_CNTLR_STATUS)
         | (control == codes::GET_PHY_INFO)
         | (control == codes::SET_PHY_INFO)
         | (control == codes::GET_LINK_ERRORS)
@@ -18,6 +20,7 @@ pub fn is_known(control: u32) -> bool
         | (control == codes::GET_SATA_SIGNATURE)
         | (control == codes::GET_SCSI_ADDRESS)
         | (control == codes::GET_DEVICE_ADDRESS)
+        | (control == codes::GET_CONNECTOR_INFO)
 }
 
 // The size of a code's structure without the header, and 0 of a code that has none.
@@ -26,6 +29,12 @@ pub fn structure_size(control: u32) -> u32
 {
     if control == codes::GET_DRIVER_INFO {
         return 174;
+    }
+    if control == codes::GET_CNTLR_CONFIG {
+        return 176;
+    }
+    if control == codes::GET_CNTLR_STATUS {
+        return 36;
     }
     if control == codes::GET_PHY_INFO {
         return 2052;
@@ -48,6 +57,9 @@ pub fn structure_size(control: u32) -> u32
     if control == codes::GET_DEVICE_ADDRESS {
         return 20;
     }
+    if control == codes::GET_CONNECTOR_INFO {
+        return 1152;
+    }
     0
 }
 
@@ -66,7 +78,9 @@ pub fn data_size(control: u32, body: &[u8]) -> u32
 pub fn signed_all(control: u32) -> bool
     ensures { λ r. ⌜ r ≡ signedAll control ⌝ }
 {
-    control == codes::GET_DRIVER_INFO
+    (control == codes::GET_DRIVER_INFO)
+        | (control == codes::GET_CNTLR_CONFIG)
+        | (control == codes::GET_CNTLR_STATUS)
 }
 
 // The lowest level that may send this. A code that no line names needs Full.
@@ -75,6 +89,12 @@ pub fn need(control: u32, body: &[u8]) -> Level
     ensures { λ r. ⌜ r ≡ need control (now (body .entry)) ⌝ }
 {
     if control == codes::GET_DRIVER_INFO {
+        return Level::RESTRICTED;
+    }
+    if control == codes::GET_CNTLR_CONFIG {
+        return Level::RESTRICTED;
+    }
+    if control == codes::GET_CNTLR_STATUS {
         return Level::RESTRICTED;
     }
     if control == codes::GET_PHY_INFO {
@@ -96,6 +116,9 @@ pub fn need(control: u32, body: &[u8]) -> Level
         return Level::RESTRICTED;
     }
     if control == codes::GET_DEVICE_ADDRESS {
+        return Level::RESTRICTED;
+    }
+    if control == codes::GET_CONNECTOR_INFO {
         return Level::RESTRICTED;
     }
     Level::FULL

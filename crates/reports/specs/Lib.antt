@@ -1,5 +1,7 @@
 pub mod Report
 pub mod DriverInfo
+pub mod Controller
+pub mod ConnectorInfo
 pub mod PhyInfo
 pub mod Signature
 pub mod Conversion

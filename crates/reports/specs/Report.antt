@@ -1,4 +1,4 @@
--- What a request that only reports leaves (document 01, "Request", codes 1, 20, 26, 27 and 28): its return code and its body. It changes
+-- What a request that only reports leaves (document 01, "Request", codes 1, 20, 26, 27 and 28; W-204's 2, 3 and 30): its return code and its body. It changes
 -- no table, no counter and no disk. "Bytes that no line below fills stay".
 -- Assumes nothing.
 use mathlib.Core.List.{List}

@@ -24,4 +24,4 @@ connectors-over-spec =
     tie.close
     (tie.spec Inv-loop μ-loop (λ c. search (connector-within, put-loop)) (λ c. search (connector-within, put-loop))
     (λ c κs. search (connector-within, put-loop)) (λ c. search (connector-within, put-loop)) (λ c. search (connector-within, put-loop))
-    (λ c. search (connector-within, put-loop)) (λ c. search (connector-within, put-loop)) (λ c. search (connector-within, put-loop)))
+    (λ c. search (connector-within, put-loop)) (λ c. search (connector-within, put-loop)) (λ c. search put-loop))
