@@ -35,6 +35,6 @@ phyDigest d phy = countersDigest (digestOf (digestOf d (part phy 0 64)) (part ph
 abbrev pub phyStep : List ℕ → ℕ → ℕ → ℕ
 phyStep phys d n = phyDigest d (part phys (104 * n) 104)
 
--- the level, the counts and the driver info, the phys, and the rows
+-- the level, the counts and the driver info, the phys, and what stands behind them: rows, configuration, status and connectors
 unfoldable pub stateDigest : List ℕ → ℕ
-stateDigest s = digestOf (steps (phyStep (part s 177 3328)) (digestOf 1 (part s 0 177)) 32) (part s 3505 1280)
+stateDigest s = digestOf (steps (phyStep (part s 177 3328)) (digestOf 1 (part s 0 177)) 32) (part s 3505 2644)

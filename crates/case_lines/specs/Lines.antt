@@ -19,13 +19,22 @@ phyLine state s = splice state (177 + 104 * (fieldOf s 1 % 32)) (patched (zeros 
 unfoldable pub rowLine : List ℕ → List ℕ → List ℕ
 rowLine state s = splice state (3505 + 20 * (fieldOf s 1 % 64)) (patched (zeros 20) s 2)
 
+-- c PHY AT:HEX ..: the connector that has these bytes
+unfoldable pub connectorLine : List ℕ → List ℕ → List ℕ
+connectorLine state s = splice state (4997 + 36 * (fieldOf s 1 % 32)) (patched (zeros 36) s 2)
+
 -- l LEVEL PHYS ROWS: another level and other counts
 unfoldable pub countLine : List ℕ → List ℕ → List ℕ
 countLine state s = splice state 0 (fieldOf s 1 % 256 ∷ fieldOf s 2 % 256 ∷ fieldOf s 3 % 256 ∷ [])
 
--- the state after a line of the letter c: y, w and l change it, and no other
+-- the state after a line of a letter: y, w, c and l change it, and no other
 unfoldable pub damaged : List ℕ → List ℕ → ℕ → List ℕ
-damaged state s c = cond (eqb c 121) (phyLine state s) (cond (eqb c 119) (rowLine state s) (cond (eqb c 108) (countLine state s) state))
+damaged state s c =
+    cond (eqb c 121) (phyLine state s)
+    (cond (eqb c 119) (rowLine state s)
+    (cond (eqb c 99) (connectorLine state s)
+    (cond (eqb c 108) (countLine state s)
+    state)))
 
 -- byte i of a pattern: step × (i + 1) modulo 251
 abbrev pub patternAt : ℕ → ℕ → ℕ

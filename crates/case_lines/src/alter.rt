@@ -1,4 +1,5 @@
 // Lines that put values into the state that no call put there.
+use crate::CONNECTORS;
 use crate::PHYS;
 use crate::ROWS;
 use crate::line::field;
@@ -10,7 +11,7 @@ ghost use Rattle.laws.specs.Splice.{splice};
 ghost use Rattle.laws.specs.Clear.{zeros};
 ghost use Rattle.state.specs.State.{stateSize};
 ghost use Rattle.case_lines.specs.Patch.{patched};
-ghost use Rattle.case_lines.specs.Lines.{phyLine, rowLine, countLine, damaged};
+ghost use Rattle.case_lines.specs.Lines.{phyLine, rowLine, connectorLine, countLine, damaged};
 
 // The words from word 2 on, over zeros.
 fn put_part(part: &mut [u8], s: &[u8])
@@ -42,6 +43,13 @@ fn row_line(state: &mut [u8], s: &[u8])
     put_at(state, ROWS + 20 * (field(s, 1) % 64) as usize, 20, s);
 }
 
+fn connector_line(state: &mut [u8], s: &[u8])
+    requires { ⌜ length (now state) ≡ stateSize ⌝ }
+    ensures { λ _. ⌜ now (state .exit) ≡ connectorLine (now (state .entry)) (now (s .entry)) ⌝ }
+{
+    put_at(state, CONNECTORS + 36 * (field(s, 1) % 32) as usize, 36, s);
+}
+
 fn count_line(state: &mut [u8], s: &[u8])
     requires { ⌜ length (now state) ≡ stateSize ⌝ }
     ensures { λ _. ⌜ now (state .exit) ≡ countLine (now (state .entry)) (now (s .entry)) ⌝ }
@@ -62,6 +70,10 @@ pub fn damage(state: &mut [u8], s: &[u8], c: u8)
     }
     if c == b'w' {
         row_line(state, s);
+        return;
+    }
+    if c == b'c' {
+        connector_line(state, s);
         return;
     }
     if c == b'l' {

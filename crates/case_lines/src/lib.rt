@@ -12,7 +12,10 @@ pub use line::field;
 pub use line::patch;
 pub use line::word;
 
-// Where the phys and the rows of a state start. Before them stand the level, the two counts and the driver info.
+// Where the phys, the rows and the connectors of a state start. Before the phys stand the level, the two counts and the driver info, and between
+// rows and connectors the controller's configuration and status.
 const PHYS: usize = 177;
 
 const ROWS: usize = 3505;
+
+const CONNECTORS: usize = 4997;

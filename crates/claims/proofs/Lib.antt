@@ -11,4 +11,5 @@ pub mod Conversions
 pub mod Sameness
 pub mod PastBoth
 pub mod ReadOnly
+pub mod Reporting
 pub mod Starred

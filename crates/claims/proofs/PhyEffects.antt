@@ -113,22 +113,22 @@ told-other body place m before d = rw (ne-eqb (named body) m (λ q. d (sym q))) 
 -- ---- code 22: the ways that it can go
 
 module _ (ad : Adapter) (body : List ℕ) where
-  errors-by : (P : Changed → Type 0) → ((code : ℕ) → 0 < code → code ≤ 2014 → P (leaves code ad body))
+  pub errors-by : (P : Changed → Type 0) → ((code : ℕ) → 0 < code → code ≤ 2014 → P (leaves code ad body))
       → (eqb (getD body resetPlace 0) linkErrorResetCounts ≡ true → named body < ad .«phy_count»
       → P (leaves success (withPhy ad (named body) (cleared (phyIn ad (named body)))) (countersShown body (phyIn ad (named body) .counters))))
-      → P (leaves success ad (countersShown body (phyIn ad (named body) .counters))) → P (linkErrors ad body)
+      → (eqb (getD body resetPlace 0) linkErrorResetCounts ≡ false → P (leaves success ad (countersShown body (phyIn ad (named body) .counters)))) → P (linkErrors ad body)
   unfolding linkErrors afterReset
   errors-by P refused cleared kept =
       either P (leb (getD body resetPlace 0) 1)
       (either-by P (ltb (named body) (ad .«phy_count»))
       (λ k. either-by (λ (s : Stored). P (withBody s (countersShown body (phyIn ad (named body) .counters)))) (eqb (getD body resetPlace 0) linkErrorResetCounts)
-      (λ t. cleared t (ltb-true (named body) (ad .«phy_count») k)) (λ _. kept))
+      (λ t. cleared t (ltb-true (named body) (ad .«phy_count») k)) kept)
       (λ _. refused 2002 (omega arith) (omega arith)))
       (refused 3 (omega arith) (omega arith))
 
   -- one that does not clear leaves the tables
   pub errors-read : eqb (getD body resetPlace 0) linkErrorResetCounts ≡ false → linkErrors ad body .adapter ≡ ad
-  errors-read e = errors-by (λ (c : Changed). c .adapter ≡ ad) (λ _ _ _. refl) (λ t _. absurd (true≢false (sym t ∙ e))) refl
+  errors-read e = errors-by (λ (c : Changed). c .adapter ≡ ad) (λ _ _ _. refl) (λ t _. absurd (true≢false (sym t ∙ e))) (λ _. refl)
 
 -- ---- their effects
 
@@ -189,4 +189,4 @@ module _ (ad : Adapter) (store : Store) (body : List ℕ) (h : adapterHolds ad �
           store = store-kept ad toldErrors store (quiet-other (sectorWriter (selectsIn ad)) toldErrors (λ e. omega arith));
         };
       })
-      (record { small = omega arith; effect = report-effect ad toldErrors store (λ e. omega arith) (λ e. omega arith) })
+      (λ _. record { small = omega arith; effect = report-effect ad toldErrors store (λ e. omega arith) (λ e. omega arith) })

@@ -57,7 +57,7 @@ module _ (p : Point) (r : Request) where
       (λ e. done long getLinkErrors e (changed store (linkErrors ad body)) (errors-effect ad store body (k .holds) z))
       (λ e. done long stpPassthru e (passed ad store (passthrough ad (store .medium) body))
       (passthrough-effect ad store body (k .disks) (passthrough-lent (controlOf r) (length body) body e (k .room))))
-      (λ n m. report-effect ad _ store n m)
+      (λ n _ m. report-effect ad _ store n m)
 
   pub request-effect : Sized (p .state .adapter) → EffectOf (handled p r)
   request-effect z =

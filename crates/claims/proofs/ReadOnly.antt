@@ -40,7 +40,7 @@ module _ (ad : Adapter) (store : Store) where
       (λ e. absurd (u .set e))
       (λ e. (errors-read ad body (u .cleared e), refl))
       (λ e. (refl, ap (withMedium store) (passthrough-read ad store body (k .disks) (passthrough-lent control (length body) body e (k .room)) (u .written e))))
-      (λ _ _. (refl, refl))
+      (λ _ _ _. (refl, refl))
 
 -- ---- a request below Full
 

@@ -31,14 +31,14 @@ pub served-by : (ad : Adapter) (store : Store) (control : ℕ) (body : List ℕ)
     → (control ≡ setPhyInfo → P (changed store (setInfo ad body)))
     → (control ≡ getLinkErrors → P (changed store (linkErrors ad body)))
     → (control ≡ stpPassthru → P (passed ad store (passthrough ad (store .medium) body)))
-    → ((control ≡ setPhyInfo → ⊥) → (control ≡ stpPassthru → ⊥) → P (changed store (reported ad (reportOf ad control body))))
+    → ((control ≡ setPhyInfo → ⊥) → (control ≡ getLinkErrors → ⊥) → (control ≡ stpPassthru → ⊥) → P (changed store (reported ad (reportOf ad control body))))
     → P (served ad store control body)
 unfolding served
 served-by ad store control body P set errors pass report =
     either-by P (eqb control setPhyInfo) (λ h. set (eqb-true control setPhyInfo h))
     (λ n. either-by P (eqb control getLinkErrors) (λ h. errors (eqb-true control getLinkErrors h))
-    (λ _. either-by P (eqb control stpPassthru) (λ h. pass (eqb-true control stpPassthru h))
-    (λ m. report (eqb-false control setPhyInfo n) (eqb-false control stpPassthru m))))
+    (λ l. either-by P (eqb control stpPassthru) (λ h. pass (eqb-true control stpPassthru h))
+    (λ m. report (eqb-false control setPhyInfo n) (eqb-false control getLinkErrors l) (eqb-false control stpPassthru m))))
 
 -- what is known of it
 pub record Ready (ad : Adapter) (store : Store) (control : ℕ) (body : List ℕ) : Type 0 where

@@ -4,4 +4,5 @@ pub mod Claim
 pub mod RoundTrip
 pub mod Sameness
 pub mod ReadOnly
+pub mod Reporting
 pub mod Starred

@@ -3,8 +3,8 @@ use mathlib.Core.Path.{refl}
 use Rattle.laws.specs.Fill.{listTo}
 use Rattle.wire.specs.Number.{bytes}
 use Rattle.connectors.specs.Connector.{pinoutHolds}
-use Rattle.connectors.specs.Pinout.{isPinout, bitAt, PinoutBits}
+use Rattle.connectors.specs.Pinout.{onlyBit, PinoutBits}
 
 pub pinout-bits : PinoutBits
-unfolding listTo bytes pinoutHolds isPinout bitAt
+unfolding listTo bytes pinoutHolds onlyBit
 pinout-bits = refl

@@ -128,6 +128,36 @@ fn put_rows(file: &mut [u8], p: usize, a: usize)
     }
 }
 
+// The first and the last byte of configuration and of status.
+fn put_controller(file: &mut [u8], at: usize)
+    requires { ⌜ at < 65536 ⌝ }
+{
+    put(file, at, 0x10);
+    put(file, at + 175, 0xfe);
+    put(file, at + 176, 1);
+    put(file, at + 211, 0xff);
+}
+
+// Connector n: one of the lanes of SFF-8470 or of SFF-8484, its name's first letter, and the last reserved byte.
+fn put_connector(file: &mut [u8], at: usize, n: usize)
+    requires { ⌜ (at < 131072) × (n < 64) ⌝ }
+{
+    put(file, at + 1 + n % 2, 1 + n % 15);
+    put(file, at + 4, 0x4a);
+    put(file, at + 35, 0x80);
+}
+
+// Those of p phys, the first at an index.
+fn put_connectors(file: &mut [u8], from: usize, p: usize)
+    requires { ⌜ (from < 65536) × (p < 64) ⌝ }
+{
+    let mut n = 0;
+    while n < p {
+        put_connector(file, from + 512 * n, n);
+        n += 1;
+    }
+}
+
 // Writes the check of block k.
 fn seal_block(file: &mut [u8], k: usize)
     requires { ⌜ 512 * k + 512 ≤ length (now file) ⌝ }
@@ -152,7 +182,7 @@ fn judged(call: u32, tables: &[u8], a: u8) -> u32
     if call != 0 {
         return call;
     }
-    if rows::rows_hold(&tables[tables::ROWS..tables::SIZE], a as usize) {
+    if rows::rows_hold(&tables[tables::ROWS..tables::CONTROLLER], a as usize) {
         return 0;
     }
     105
@@ -175,7 +205,7 @@ fn show_read(call: u32, tables: &[u8])
 
 // What a file gives, with the counts that were read.
 fn show(file: &[u8]) {
-    let mut tables = [0u8; 4784];
+    let mut tables = [0u8; tables::SIZE];
     let call = file::read_file(&mut tables, file);
     show_read(call, &tables);
 }
@@ -183,9 +213,9 @@ fn show(file: &[u8]) {
 // The size of a file with p phys and a rows.
 fn size(p: usize, a: usize) -> usize
     requires { ⌜ (p < 64) × (a < 128) ⌝ }
-    ensures { λ r. ⌜ r ≤ 36352 ⌝ }
+    ensures { λ r. ⌜ r ≤ 68608 ⌝ }
 {
-    512 * (1 + p + (a + 24) / 25)
+    512 * (2 + 2 * p + (a + 24) / 25)
 }
 
 fn put_head(file: &mut [u8], p: usize, a: usize) {
@@ -202,6 +232,8 @@ fn build(file: &mut [u8], p: usize, a: usize)
     put_head(file, p, a);
     put_phys(file, p);
     put_rows(file, p, a);
+    put_controller(file, 512 * (1 + p + (a + 24) / 25));
+    put_connectors(file, 512 * (2 + p + (a + 24) / 25), p);
     seal(file);
 }
 
@@ -229,9 +261,9 @@ fn try_file(file: &mut [u8], n: Numbers)
 }
 
 fn try_sized(n: Numbers, end: usize)
-    requires { ⌜ (n .p < 64) × (n .a < 128) × (end ≤ 36352) ⌝ }
+    requires { ⌜ (n .p < 64) × (n .a < 128) × (end ≤ 68608) ⌝ }
 {
-    let mut file = [0u8; 36352];
+    let mut file = [0u8; 68608];
     try_file(&mut file[..end], n);
 }
 
@@ -281,7 +313,7 @@ fn try_lines(input: &[u8]) {
 }
 
 fn main() {
-    let mut input = [0u8; 8192];
+    let mut input = io::large_buffer();
     let n = io::read_full(STDIN_FILENO, &mut input);
     try_lines(&input[..n]);
 }

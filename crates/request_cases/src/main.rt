@@ -9,6 +9,7 @@
 //   l LEVEL PHYS ROWS                  the state gets another level and other counts
 //   y PHY AT:HEX ..                    the state gets the phy of a block that has these bytes
 //   w ROW AT:HEX ..                    the state gets the row that has these bytes
+//   c PHY AT:HEX ..                    the state gets the connector that has these bytes
 //   # ..                               a heading, printed as it stands
 use case_lines::damage;
 use case_lines::digest;

@@ -4,11 +4,13 @@ use mathlib.Core.Bool.{cond}
 use mathlib.Core.List.{List}
 use Prim.Native.Nat.{ℕ}
 use lib.Dec.{eqb}
-use Rattle.codes.specs.Codes.{getDriverInfo, getPhyInfo, setPhyInfo, getLinkErrors, stpPassthru, getSataSignature, getScsiAddress, getDeviceAddress, badControlCode}
+use Rattle.codes.specs.Codes.{getDriverInfo, getCntlrConfig, getCntlrStatus, getPhyInfo, setPhyInfo, getLinkErrors, stpPassthru, getSataSignature, getScsiAddress, getDeviceAddress, getConnectorInfo, badControlCode}
 use Rattle.adapter.specs.Adapter.{Adapter}
 use Rattle.adapter.specs.Changed.{Changed}
 use Rattle.reports.specs.Report.{Report, report}
 use Rattle.reports.specs.DriverInfo.{driverInfo}
+use Rattle.reports.specs.Controller.{controllerConfig, controllerStatus}
+use Rattle.reports.specs.ConnectorInfo.{connectorInfo}
 use Rattle.reports.specs.PhyInfo.{phyInfo}
 use Rattle.reports.specs.Signature.{sataSignature}
 use Rattle.reports.specs.ScsiAddress.{scsiAddress}
@@ -51,15 +53,18 @@ changed store c = serves (c .code) (c .adapter) store (c .body)
 abbrev pub passed : Adapter → Store → Passed → Served
 passed ad store p = serves (p .code) ad (withMedium store (p .medium)) (p .body)
 
--- codes 1, 20, 26, 27 and 28; no other comes here: `served` takes 21, 22 and 25 before, and the header's checks refuse the rest
+-- codes 1, 2, 3, 20, 26, 27, 28 and 30; no other comes here: `served` takes 21, 22 and 25 before, and the header's checks refuse the rest
 unfoldable pub reportOf : Adapter → ℕ → List ℕ → Report
 reportOf ad control body =
     cond (eqb control getDriverInfo) (driverInfo (ad .info) body)
+    (cond (eqb control getCntlrConfig) (controllerConfig (ad .controller) body)
+    (cond (eqb control getCntlrStatus) (controllerStatus (ad .status) body)
     (cond (eqb control getPhyInfo) (phyInfo (ad .phys) (ad .«phy_count») body)
     (cond (eqb control getSataSignature) (sataSignature ad body)
     (cond (eqb control getScsiAddress) (scsiAddress (ad .rows) (ad .«row_count») body)
     (cond (eqb control getDeviceAddress) (deviceAddress (ad .rows) (ad .«row_count») body)
-    (report badControlCode body)))))
+    (cond (eqb control getConnectorInfo) (connectorInfo (ad .connectors) (ad .«phy_count») body)
+    (report badControlCode body))))))))
 
 -- every code
 unfoldable pub served : Adapter → Store → ℕ → List ℕ → Served

@@ -17,6 +17,12 @@ fn report(tables: &[u8], control: u32, body: &mut [u8]) -> u32
     if control == codes::GET_DRIVER_INFO {
         return reports::get_driver_info(tables, body);
     }
+    if control == codes::GET_CNTLR_CONFIG {
+        return reports::get_controller_config(tables, body);
+    }
+    if control == codes::GET_CNTLR_STATUS {
+        return reports::get_controller_status(tables, body);
+    }
     if control == codes::GET_PHY_INFO {
         return reports::get_phy_info(tables, body);
     }
@@ -28,6 +34,9 @@ fn report(tables: &[u8], control: u32, body: &mut [u8]) -> u32
     }
     if control == codes::GET_DEVICE_ADDRESS {
         return reports::get_device_address(tables, body);
+    }
+    if control == codes::GET_CONNECTOR_INFO {
+        return reports::get_connector_info(tables, body);
     }
     // not reached: `serve` takes 21, 22 and 25 before, and the header's checks refuse the rest
     codes::BAD_CONTROL_CODE

@@ -10,8 +10,8 @@ use session::run;
 ghost use Prim.Native.Nat.{_≤_};
 ghost use lib.ListN.{length};
 
-// A file of at most 7 phys and 64 rows has 5,632 bytes; one more shows that a file is longer.
-const FILE_LIMIT: usize = 5633;
+// A file of at most 7 phys and 64 rows has 9,728 bytes; one more shows that a file is longer.
+const FILE_LIMIT: usize = 9729;
 
 // A text of 1,024 bytes, and one more.
 const TEXT_LIMIT: usize = 1025;

@@ -29,7 +29,7 @@ pub fn rows_apart(tables: &[u8]) -> bool
     ensures { λ r. ⌜ r ≡ rowsHold (tablesOf (now (tables .entry)) .rows) (tablesOf (now (tables .entry)) .«row_count») ⌝ }
 {
     rows::rows_hold(
-        &tables[tables::ROWS..tables::SIZE],
+        &tables[tables::ROWS..tables::CONTROLLER],
         tables::row_count(tables) as usize,
     )
 }

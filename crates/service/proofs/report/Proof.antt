@@ -11,7 +11,10 @@ pub report-spec : {M : Type 1} → statement M
 unfolding reportOf structureSize
 report-spec =
     tie.close
-    (tie.spec (λ c κs. search (room, needs)) (λ c. search needs) (λ c. search picks depth 9) (λ c κs. search (room, needs))
-    (λ c. search needs) (λ c. search picks depth 9) (λ c κs. search (room, needs)) (λ c. search needs)
-    (λ c. search picks depth 9) (λ c κs. search (room, needs)) (λ c. search needs) (λ c. search picks depth 9)
-    (λ c κs. search (room, needs)) (λ c. search needs) (λ c. search picks depth 9) (λ c. search picks depth 9))
+    (tie.spec (λ c κs. search (room, needs)) (λ c. search needs) (λ c. search picks depth 12)
+    (λ c κs. search (room, needs)) (λ c. search needs) (λ c. search picks depth 12) (λ c κs. search (room, needs))
+    (λ c. search needs) (λ c. search picks depth 12) (λ c κs. search (room, needs)) (λ c. search needs)
+    (λ c. search picks depth 12) (λ c κs. search (room, needs)) (λ c. search needs) (λ c. search picks depth 12)
+    (λ c κs. search (room, needs)) (λ c. search needs) (λ c. search picks depth 12) (λ c κs. search (room, needs))
+    (λ c. search needs) (λ c. search picks depth 12) (λ c κs. search (room, needs)) (λ c. search needs)
+    (λ c. search picks depth 12) (λ c. search picks depth 12))

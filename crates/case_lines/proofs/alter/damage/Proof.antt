@@ -9,5 +9,6 @@ pub damage-spec : {M : Type 1} → statement M
 unfolding damaged
 damage-spec =
     tie.close
-    (tie.spec (λ c κs. search needs) (λ c. search needs) (λ c. search picks) (λ c κs. search needs) (λ c. search needs) (λ c. search picks)
-    (λ c κs. search needs) (λ c. search needs) (λ c. search picks) (λ c. search picks))
+    (tie.spec (λ c κs. search needs) (λ c. search needs) (λ c. search picks) (λ c κs. search needs) (λ c. search needs)
+    (λ c. search picks) (λ c κs. search needs) (λ c. search needs) (λ c. search picks) (λ c κs. search needs)
+    (λ c. search needs) (λ c. search picks) (λ c. search picks))

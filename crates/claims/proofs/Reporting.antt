@@ -1,0 +1,78 @@
+-- The proof that the codes that report leave state and medium as they were, but for the reset of counters. Assumes nothing.
+use mathlib.Core.Path.{_≡_, refl}
+use mathlib.Core.Bool.{Bool, true, false, cond, _&&_, false≢true}
+use mathlib.Core.List.{List}
+use Prim.Native.Nat.{ℕ, _≤_}
+use native.Mathlib.Omega.{arith}
+use lib.Dec.{eqb}
+use lib.ListN.{length, getD}
+use borrow.Author.Tests.{eq-eqb, ne-eqb}
+use Rattle.laws.specs.Choice.{by-bool}
+use Rattle.codes.specs.Codes.{setPhyInfo, getLinkErrors, stpPassthru, success, resetPlace, linkErrorResetCounts}
+use Rattle.level.specs.Need.{among}
+use Rattle.adapter.specs.Adapter.{Adapter}
+use Rattle.adapter.specs.Changed.{Changed, leaves}
+use Rattle.link_errors.specs.LinkErrors.{linkErrors}
+use Rattle.header.specs.Sent.{Request, formOf, controlOf, bodyOf}
+use Rattle.service.specs.Serve.{Store, Served, changed, served}
+use Rattle.dispatch.specs.Request.{Point, Outcome, inBuffer, replied}
+use Rattle.claims.specs.Run.{exchangeOf}
+use Rattle.claims.specs.LastWriter.{Told, toldBy}
+use Rattle.claims.specs.Reporting.{reporting, resets, leftBy, Reporting}
+use Rattle.claims.proofs.Ways.{served-by, handled-by, toldOf, told-number, told-refused, told-served}
+use Rattle.claims.proofs.PhyEffects.{errors-by}
+
+-- ---- what resets no counters
+
+module _ (p : Point) (t : Told) where
+  -- what was not granted
+  left-refused : t .granted ≡ false → p ≡ leftBy p t
+  unfolding resets
+  left-refused g = rw g refl
+
+  -- another code, and a 22 with another reset byte
+  left-other : eqb (t .control) getLinkErrors && eqb (getD (t .body) resetPlace 0) linkErrorResetCounts ≡ false → p ≡ leftBy p t
+  unfolding resets
+  left-other e = rw e (by-bool (λ (g : Bool). p ≡ cond (g && false) _ p) refl refl (t .granted))
+
+-- ---- a request
+
+module _ (p : Point) (r : Request) where
+  abbrev ad : Adapter
+  ad = p .state .adapter
+
+  abbrev store : Store
+  store = p .store
+
+  abbrev body : List ℕ
+  body = bodyOf r
+
+  -- of what it left
+  abbrev Left : Outcome → Type 0
+  Left o = o .point ≡ leftBy p (toldBy (exchangeOf r o))
+
+  abbrev replyWith : Served → Outcome
+  replyWith x = replied (formOf r) (p .state .level) (inBuffer r x)
+
+  -- code 22
+  errors-left : formOf r .size ≤ length (r .buffer) → controlOf r ≡ getLinkErrors → Left (replyWith (changed store (linkErrors ad body)))
+  unfolding resets
+  errors-left long e =
+      errors-by ad body (λ (c : Changed). Left (replyWith (changed store c)))
+      (λ code k l. rw (told-served p r _ l long) (left-refused p (toldOf (controlOf r) body (changed store (leaves code ad body))) (ne-eqb code success (λ z. omega arith))))
+      (λ t k. rw (told-served p r _ (omega arith) long, eq-eqb (controlOf r) getLinkErrors e, t) refl)
+      (λ t. rw (told-served p r _ (omega arith) long) (left-other p (toldOf (controlOf r) body _) (rw (eq-eqb (controlOf r) getLinkErrors e, t) refl)))
+
+  served-left : among (controlOf r) reporting ≡ true → formOf r .size ≤ length (r .buffer) → Left (replyWith (served ad store (controlOf r) body))
+  unfolding among toldBy
+  served-left m long =
+      served-by ad store (controlOf r) body (λ (x : Served). Left (replyWith x))
+      (λ e. let n : false ≡ true = rw e at m in absurd (false≢true n))
+      (errors-left long)
+      (λ e. let n : false ≡ true = rw e at m in absurd (false≢true n))
+      (λ _ n _. left-other p _ (rw (ne-eqb (controlOf r) getLinkErrors n) refl))
+
+pub reporting-leaves : Reporting
+reporting-leaves p r m =
+    handled-by p r (Left p r) (λ call h. left-refused p _ (told-number p r call h)) (λ code h k long. left-refused p _ (told-refused p r code h k long))
+    (λ _ long _. served-left p r m long)
