@@ -10,15 +10,16 @@ use borrow.Author.Tests.{eq-eqb, ne-eqb}
 use Rattle.laws.specs.Choice.{by-bool}
 use Rattle.codes.specs.Codes.{setPhyInfo, getLinkErrors, stpPassthru, success, resetPlace, linkErrorResetCounts}
 use Rattle.level.specs.Need.{among}
-use Rattle.adapter.specs.Adapter.{Adapter}
+use Rattle.phy.specs.Change.{cleared}
+use Rattle.adapter.specs.Adapter.{Adapter, phyIn, withPhy}
 use Rattle.adapter.specs.Changed.{Changed, leaves}
-use Rattle.link_errors.specs.LinkErrors.{linkErrors}
+use Rattle.link_errors.specs.LinkErrors.{countersShown, linkErrors}
 use Rattle.header.specs.Sent.{Request, formOf, controlOf, bodyOf}
 use Rattle.service.specs.Serve.{Store, Served, changed, served}
 use Rattle.dispatch.specs.Request.{Point, Outcome, inBuffer, replied}
 use Rattle.claims.specs.Run.{exchangeOf}
 use Rattle.claims.specs.LastWriter.{Told, toldBy}
-use Rattle.claims.specs.Reporting.{reporting, resets, leftBy, Reporting}
+use Rattle.claims.specs.Reporting.{reporting, resets, countersCleared, leftBy, Reporting}
 use Rattle.claims.proofs.Ways.{served-by, handled-by, toldOf, told-number, told-refused, told-served}
 use Rattle.claims.proofs.PhyEffects.{errors-by}
 
@@ -33,7 +34,7 @@ module _ (p : Point) (t : Told) where
   -- another code, and a 22 with another reset byte
   left-other : eqb (t .control) getLinkErrors && eqb (getD (t .body) resetPlace 0) linkErrorResetCounts ≡ false → p ≡ leftBy p t
   unfolding resets
-  left-other e = rw e (by-bool (λ (g : Bool). p ≡ cond (g && false) _ p) refl refl (t .granted))
+  left-other e = rw e (by-bool (λ (g : Bool). p ≡ cond (g && false) (countersCleared p (getD (t .body) 0 0)) p) refl refl (t .granted))
 
 -- ---- a request
 
@@ -54,14 +55,27 @@ module _ (p : Point) (r : Request) where
   abbrev replyWith : Served → Outcome
   replyWith x = replied (formOf r) (p .state .level) (inBuffer r x)
 
+  -- what a 22 leaves: a return code and these tables, with the counters shown or not
+  abbrev leaving : ℕ → Adapter → List ℕ → Served
+  leaving code bd after = changed store (leaves code bd after)
+
+  abbrev shown : List ℕ
+  shown = countersShown body (phyIn ad (getD body 0 0) .counters)
+
+  abbrev clearing : Adapter
+  clearing = withPhy ad (getD body 0 0) (cleared (phyIn ad (getD body 0 0)))
+
   -- code 22
   errors-left : formOf r .size ≤ length (r .buffer) → controlOf r ≡ getLinkErrors → Left (replyWith (changed store (linkErrors ad body)))
   unfolding resets
   errors-left long e =
       errors-by ad body (λ (c : Changed). Left (replyWith (changed store c)))
-      (λ code k l. rw (told-served p r _ l long) (left-refused p (toldOf (controlOf r) body (changed store (leaves code ad body))) (ne-eqb code success (λ z. omega arith))))
-      (λ t k. rw (told-served p r _ (omega arith) long, eq-eqb (controlOf r) getLinkErrors e, t) refl)
-      (λ t. rw (told-served p r _ (omega arith) long) (left-other p (toldOf (controlOf r) body _) (rw (eq-eqb (controlOf r) getLinkErrors e, t) refl)))
+      (λ code k l.
+      rw (told-served p r (leaving code ad body) l long) (left-refused p (toldOf (controlOf r) body (leaving code ad body)) (ne-eqb code success (λ z. omega arith))))
+      (λ t k. rw (told-served p r (leaving success clearing shown) (omega arith) long, eq-eqb (controlOf r) getLinkErrors e, t) refl)
+      (λ t.
+      rw (told-served p r (leaving success ad shown) (omega arith) long)
+      (left-other p (toldOf (controlOf r) body (leaving success ad shown)) (rw (eq-eqb (controlOf r) getLinkErrors e, t) refl)))
 
   served-left : among (controlOf r) reporting ≡ true → formOf r .size ≤ length (r .buffer) → Left (replyWith (served ad store (controlOf r) body))
   unfolding among toldBy
