@@ -1,6 +1,6 @@
 //! A reply in words: the return code, the fields of its structure, and which of them the reply changed.
 
-use crate::adapter::entity_words;
+use crate::adapter::{connector_words, entity_words, CONNECTOR_BYTES};
 use crate::field::Field;
 use crate::names;
 use crate::session::{layout, Header, STP_PASSTHRU};
@@ -50,27 +50,48 @@ fn title(header: Header, control: u32) -> String {
     }
 }
 
-/// The line of one field, and of the entities of code 20 a line for each phy.
+/// The line of one field; of the entities of code 20 and the references of code 30 a line for each phy.
 fn shown(field: &Field, sent: &[u8], got: &[u8], success: bool) -> String {
     let part = field.at..field.at + field.size;
     let changed = sent[part.clone()] != got[part.clone()];
-    if field.name != "entities" {
-        let value = match success {
-            true => meaning(field, got),
-            false => field.show(got),
-        };
-        return row(field.name, &value, changed);
+    let value = match success {
+        true => meaning(field, got),
+        false => field.show(got),
+    };
+    let phys = |size: usize, count: usize, words: fn(&[u8]) -> String| -> String {
+        let each = got[part.clone()].chunks(size).take(count).enumerate();
+        each.map(|(n, phy)| row(&format!("phy {n}"), &words(phy), changed))
+            .collect()
+    };
+    match field.name {
+        "entities" => phys(64, usize::from(got[0]).min(32), entity_words),
+        "references" if success => {
+            let count = filled(&got[part.clone()]);
+            let rest = "00*36 each".to_string();
+            let behind = (count < 32).then(|| row(&others(count), &rest, changed));
+            phys(CONNECTOR_BYTES, count, connector_words) + &behind.unwrap_or_default()
+        }
+        _ => row(field.name, &value, changed),
     }
-    let phys = usize::from(got[0]).min(32);
-    let entities = got[part].chunks(64).take(phys).enumerate();
-    entities
-        .map(|(n, entity)| row(&format!("phy {n}"), &entity_words(entity), changed))
-        .collect()
 }
 
-/// A field's value, with words for the connection and the status FIS of a code 25.
+/// How many references there are up to the last that is not zero. A reply of code 30 does not count the phys.
+fn filled(references: &[u8]) -> usize {
+    let last = references.iter().rposition(|b| *b != 0);
+    last.map_or(0, |at| at / CONNECTOR_BYTES + 1)
+}
+
+/// The references from a number on.
+fn others(first: usize) -> String {
+    match first {
+        31 => "phy 31".to_string(),
+        _ => format!("phys {first} to 31"),
+    }
+}
+
+/// A field's value, with words for the connection and the status FIS of a code 25, and for numbers that have names.
 fn meaning(field: &Field, got: &[u8]) -> String {
-    let shown = field.show(got);
+    let shown = field.words(got);
     let part = &got[field.at..];
     let words = match (field.name, part) {
         ("connection", [0, ..]) => Some("open accept"),
@@ -156,6 +177,62 @@ mod tests {
     }
 
     #[test]
+    fn a_front_page_in_words() {
+        let text = |name: &str, fields: &str| {
+            let got = request(&format!("{name} {fields}"));
+            reply(&request(name), &got).unwrap()
+        };
+        let config = text(
+            "get-cntlr-config",
+            "class=hba bus=pci slot=unknown serial=\"L4\" flags=sas-hba board=30A81000h",
+        );
+        assert!(config.starts_with("get-cntlr-config (2): 0 success\n"));
+        for line in [
+            "* board              30A81000h",
+            "* slot               65535 (unknown)",
+            "* class              5 (hba)",
+            "* bus                3 (pci)",
+            "* serial             \"L4\"",
+            "* flags              00000001h (sas-hba)",
+            "  bios-major         0",
+            "  rrom-bios-release  0",
+        ] {
+            assert!(config.lines().any(|found| found == line), "{line}");
+        }
+        assert_eq!(
+            text(
+                "get-cntlr-status",
+                "status=offline offline-reason=initializing"
+            ),
+            "get-cntlr-status (3): 0 success
+* marks what the reply changed
+* status             3 (offline)
+* offline-reason     1 (initializing)
+  reserved           00*28
+"
+        );
+        let first = "000001004A31+00*14+02+00*15";
+        assert_eq!(
+            text(
+                "get-connector-info",
+                &format!("references=00*36+{first}+00*1080")
+            ),
+            "get-connector-info (30): 0 success
+* marks what the reply changed
+* phy 0              connector \"\", pinout 0, location 0
+* phy 1              connector \"J1\", pinout sff-8484-lane-1, location internal
+* phys 2 to 31       00*36 each
+"
+        );
+        let denied = text("get-connector-info", "return-code=4");
+        assert!(denied.ends_with("\n  references         00*1152\n"));
+        let full = text("get-connector-info", "references=01*1152");
+        assert_eq!(full.lines().count(), 34);
+        let but_one = text("get-connector-info", "references=01*1116+00*36");
+        assert!(but_one.ends_with("\n* phy 31             00*36 each\n"));
+    }
+
+    #[test]
     fn linux_replies_in_words() {
         let text = linux(
             "linux get-link-errors phy=1",
@@ -176,17 +253,23 @@ mod tests {
             ),
             "linux unknown control code (CC770014h): 2 bad control code\nthe body is as sent\n"
         );
+        let text = linux(
+            "linux get-cntlr-status",
+            "linux get-cntlr-status status=good",
+        );
+        assert!(text.starts_with("linux get-cntlr-status (3): 0 success\n"));
+        assert!(text.contains("* status             1 (good)\n"));
         let short = "linux raw control=22 00*19";
         assert_eq!(linux(short, short), "no header, so no return code\n");
     }
 
     #[test]
     fn refusals_in_words() {
-        let sent = request("get-cntlr-config");
-        let got = request("get-cntlr-config return-code=2");
+        let sent = request("ssp-passthru");
+        let got = request("ssp-passthru return-code=2");
         assert_eq!(
             reply(&sent, &got).unwrap(),
-            "get-cntlr-config (2): 2 bad control code\nthe body is as sent\n"
+            "ssp-passthru (24): 2 bad control code\nthe body is as sent\n"
         );
         assert_eq!(reply(&[1], &[1]).unwrap(), "no header, so no return code\n");
         assert_eq!(
