@@ -13,6 +13,13 @@ pub struct Difference {
     pub values: Vec<String>,
 }
 
+impl Difference {
+    /// Whether the values are not all the same.
+    pub fn values_differ(&self) -> bool {
+        self.values.windows(2).any(|pair| pair[0] != pair[1])
+    }
+}
+
 /// The bytes of a PHY_ENTITY.
 const ENTITY: usize = 64;
 /// Values longer than this are shown from the first byte that differs.
@@ -146,9 +153,9 @@ pub fn values_differ(
     structures: &[&[u8]],
     show: impl Fn(&[u8]) -> String,
 ) -> Option<Difference> {
-    let values: Vec<String> = structures.iter().map(|s| show(s)).collect();
-    let differ = values.windows(2).any(|pair| pair[0] != pair[1]);
-    differ.then_some(Difference { what, values })
+    let values = structures.iter().map(|s| show(s)).collect();
+    let found = Difference { what, values };
+    found.values_differ().then_some(found)
 }
 
 /// A difference of byte strings.
