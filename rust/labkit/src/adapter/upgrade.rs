@@ -18,7 +18,7 @@ pub fn upgrade(old: &[u8]) -> Result<Vec<u8>, String> {
     let length = old.len();
     if length == now {
         return Err(format!(
-            "it has {length} bytes, as the present layout has for {phys} phys and {rows} rows: it is no old file"
+            "it is of the present layout already, which has {length} bytes for {phys} phys and {rows} rows"
         ));
     }
     if length != before {
@@ -119,7 +119,7 @@ mod tests {
         let now = parse(TEXT).unwrap();
         assert_eq!(
             fault(&now),
-            "it has 3584 bytes, as the present layout has for 2 phys and 1 rows: it is no old file"
+            "it is of the present layout already, which has 3584 bytes for 2 phys and 1 rows"
         );
         assert_eq!(
             fault(&now[..2560]),
