@@ -109,9 +109,9 @@ mod tests {
             ["get-cntlr-status status=good"; 2],
             ["get-cntlr-config slot=unknown", "get-cntlr-config slot=7"],
         ]);
-        assert_eq!(found.len(), 10 + 1 + 2);
+        assert_eq!(found.len(), 9 + 1 + 2);
         assert_eq!(found[1], "slot: unknown | 7");
-        assert_eq!(found[10], "status: good | good");
-        assert!(found[12].starts_with("phy 1: connector 01*16"));
+        assert_eq!(found[9], "status: good | good");
+        assert!(found[11].starts_with("phy 1: connector 01*16"));
     }
 }

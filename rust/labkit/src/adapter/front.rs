@@ -30,7 +30,7 @@ pub fn connector() -> [u8; CONNECTOR_BYTES] {
     info
 }
 
-/// A connector in words: `"J1" sff-8484-lane-1, internal`.
+/// A connector in words: `connector "J1", pinout sff-8484-lane-1, location internal`.
 pub fn connector_words(reference: &[u8]) -> String {
     let shown = |at: usize| shown(&CONNECTOR, at, reference);
     format!(
@@ -54,7 +54,12 @@ pub fn controller_lines(info: &[u8]) -> Vec<(String, String)> {
     let lines = [
         (
             "board",
-            format!("subsystem {} of vendor {}", half(BOARD + 2), half(BOARD)),
+            format!(
+                "{}, subsystem {} of vendor {}",
+                shown(BOARD),
+                half(BOARD + 2),
+                half(BOARD)
+            ),
         ),
         ("slot", shown(SLOT)),
         ("class", shown(CLASS)),
@@ -68,8 +73,14 @@ pub fn controller_lines(info: &[u8]) -> Vec<(String, String)> {
         ("serial", shown(SERIAL)),
         ("firmware", revision(FIRMWARE)),
         ("BIOS", revision(BIOS)),
-        ("redundant firmware", revision(RROM_FIRMWARE)),
-        ("redundant BIOS", revision(RROM_BIOS)),
+        (
+            "redundant",
+            format!(
+                "firmware {}, BIOS {}",
+                revision(RROM_FIRMWARE),
+                revision(RROM_BIOS)
+            ),
+        ),
         ("flags", shown(FLAGS)),
     ];
     lines.map(|(name, words)| (name.to_string(), words)).into()
@@ -130,15 +141,14 @@ mod tests {
         assert_eq!(
             lines,
             [
-                "board: subsystem 30A8h of vendor 1000h",
+                "board: 30A81000h, subsystem 30A8h of vendor 1000h",
                 "slot: 3",
                 "class: hba",
                 "bus: pci, bus 4 device 1 function 0",
                 "serial: \"L4\"",
                 "firmware: 1.26.0.0",
                 "BIOS: 6.0.0.0",
-                "redundant firmware: 1.0.0.0",
-                "redundant BIOS: 0.0.0.9",
+                "redundant: firmware 1.0.0.0, BIOS 0.0.0.9",
                 "flags: sas-hba+fwd-support",
             ]
         );

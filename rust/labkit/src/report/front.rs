@@ -43,7 +43,7 @@ mod tests {
     fn the_replies_of_a_front_page() {
         for word in ["", "linux "] {
             let config = lines(&format!("{word}get-cntlr-config slot=2"), 4);
-            assert_eq!((config.len(), config[1].as_str()), (10, "slot: 2"));
+            assert_eq!((config.len(), config[1].as_str()), (9, "slot: 2"));
             let status = lines(&format!("{word}get-cntlr-status status=failed"), 4);
             assert_eq!(status, ["status: failed"]);
             let connectors = lines(&format!("{word}get-connector-info references=01*1152"), 3);
