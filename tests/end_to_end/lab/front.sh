@@ -165,3 +165,17 @@ dir=$(exercise old_beside) && cp "$work/old.bin" "$dir/adapter.bin" && touch -d 
 try "an adapter.bin of the old layout beside its text" marks 0 "warning adapter.txt is run; adapter.bin beside it is what it described in the old layout: make it anew with labkit adapter" "$dir"
 head -c 3072 samples/refusals/adapter.bin >"$dir/adapter.bin" && touch -d '+1 hour' "$dir/adapter.bin"
 try "another adapter.bin of the old layout beside a text" lab_refuses "$dir/adapter.bin is newer than adapter.txt and is not what it describes; remove the one that is not to run" "$dir"
+
+# 5: what docs/LAB.md shows
+front_documented() {
+    grep -qxF "    labkit upgrade OLD NEW" docs/LAB.md && grep -q '^    front page  ' docs/LAB.md &&
+        ! sed -n '/^    front page/,/^Where the session/s/^    //p' docs/LAB.md | grep . | grep -vxFf "$here/lab/good.out"
+}
+try "the front page in docs/LAB.md" front_documented
+# example HEADING KIND: the lines first shown below a heading are a description.
+example() {
+    awk -v heading="$1" '$0 == heading { on = 1 } on && /^    / { print substr($0, 5); shown = 1 } on && shown && /^$/ { exit }' docs/LAB.md >"$work/example.txt" &&
+        [ -s "$work/example.txt" ] && "$kit" "$2" "$work/example.txt" "$work/example"
+}
+try "the adapter in docs/LAB.md" example "## An adapter" adapter
+try "the session in docs/LAB.md" example "## A session" session
