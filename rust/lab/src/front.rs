@@ -39,9 +39,9 @@ impl Front {
             let pages: Vec<_> = self.0.iter().map(of_run).collect();
             let names = pages.iter().flatten().next();
             for (i, (name, _)) in names.into_iter().flatten().enumerate() {
-                let words = |page: &Option<Vec<(String, String)>>| match page {
-                    Some(lines) => lines[i].1.clone(),
-                    None => NOT_SEEN.to_string(),
+                let words = |page: &Option<Vec<(String, String)>>| {
+                    let line = page.as_ref().and_then(|lines| lines.get(i));
+                    line.map_or(NOT_SEEN.to_string(), |(_, words)| words.clone())
                 };
                 found.push(Difference {
                     what: name.clone(),

@@ -71,19 +71,21 @@ fn refusal(exercise: &Exercise, text: &str, number: u32) -> String {
         ),
         _ => {
             let from = &exercise.adapter.from;
-            let why = layout(number, &exercise.adapter.bytes).unwrap_or_default();
+            let why = layout(number, from, &exercise.adapter.bytes).unwrap_or_default();
             format!("the opening refuses the adapter of {from}: {words}{why}")
         }
     }
 }
 
-/// What is to be said of a file whose length is that of the old layout.
-fn layout(number: u32, file: &[u8]) -> Option<String> {
+/// What is to be said of an adapter whose length is that of the old layout.
+fn layout(number: u32, from: &str, file: &[u8]) -> Option<String> {
+    let remedy = match from.ends_with(".txt") {
+        true => "without its length line it is of the present one",
+        false => "labkit upgrade OLD NEW makes a file of the present one",
+    };
     (number == FILE_LENGTH && is_old(file)).then(|| {
-        format!(
-            "; {} bytes are the old layout, which ended behind the rows: labkit upgrade OLD NEW makes a file of the present one",
-            file.len()
-        )
+        let length = file.len();
+        format!("; {length} bytes are the old layout, which ended behind the rows: {remedy}")
     })
 }
 
@@ -118,13 +120,17 @@ mod tests {
     #[test]
     fn files_of_the_old_layout() {
         let now = labkit::adapter::parse("phy\nphy\nrow").unwrap();
-        let said = |number, file: &[u8]| layout(number, file);
+        let said = |number, file: &[u8]| layout(number, "adapter.bin", file);
         let words = "; 2048 bytes are the old layout, which ended behind the rows: labkit upgrade OLD NEW makes a file of the present one";
         assert_eq!(said(102, &now[..2048]), Some(words.to_string()));
         for length in [0, 512, 1536, 2047, 2049, 2560, now.len()] {
             assert_eq!(said(102, &now[..length]), None, "{length}");
         }
         assert_eq!(said(103, &now[..2048]), None);
+        let text = layout(102, "adapter.txt", &now[..2048]);
+        assert!(text.is_some_and(
+            |words| words.ends_with("rows: without its length line it is of the present one")
+        ));
     }
 
     #[test]

@@ -118,7 +118,11 @@ dir=$(exercise old_layout) && rm "$dir/adapter.txt" && cp "$work/old.bin" "$dir/
 old_words="the opening refuses the adapter of adapter.bin: 102 file length; 3072 bytes are the old layout, which ended behind the rows: labkit upgrade OLD NEW makes a file of the present one"
 try "an adapter.bin of the old layout" no_mark "no mark: $old_words" "$dir"
 try "--json of it" marks 2 "\"no_mark\": \"$old_words\"" --json "$dir"
-head -c 3584 samples/good/adapter.bin >"$dir/adapter.bin"
+"$kit" adapter-text "$work/old.bin" "$dir/adapter.txt" && rm "$dir/adapter.bin"
+try "its description" no_mark "3072 bytes are the old layout, which ended behind the rows: without its length line it is of the present one" "$dir"
+sed -i '/^length/d' "$dir/adapter.txt"
+try "without its length line" marks 0 "mark: 0 of 15 differ" "$dir"
+rm "$dir/adapter.txt" && head -c 3584 samples/good/adapter.bin >"$dir/adapter.bin"
 try "a file of neither layout" no_mark "no mark: the opening refuses the adapter of adapter.bin: 102 file length" "$dir"
 try "is not taken for an old one" unmarked "old layout" "$dir"
 upgraded() {
