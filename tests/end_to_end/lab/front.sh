@@ -83,7 +83,7 @@ try "labkit reply, the configuration" in_words 1 '* serial             "CL-00074
 try "labkit reply, a name" in_words 1 '* class              5 (hba)' '* bus                3 (pci)'
 try "labkit reply, the status" in_words 2 '* status             1 (good)' '* status             1 (good)'
 try "labkit reply, a connector" in_words 3 '* phy 2              connector "J1", pinout sff-8484-lane-3, location internal' '* phy 2              connector "J5", pinout sff-8470-lane-3, location external'
-try "labkit reply, no phy" in_words 3 '* phys 4 to 31       00*36 each' '* phys 4 to 31       00*36 each'
+try "labkit reply, no phy" in_words 3 '  phys 4 to 31       00*36 each' '  phys 4 to 31       00*36 each'
 
 # 3: every bit of a pinout, on the last phy
 pinouts() {

@@ -6,6 +6,10 @@ use crate::names;
 use crate::session::{layout, Header, STP_PASSTHRU};
 use crate::value::{show_bytes, show_code};
 
+/// How many phys a code 20 and a code 30 have room for, and the bytes of a PHY_ENTITY.
+const PHYS: usize = 32;
+const ENTITY: usize = 64;
+
 /// The reply to a request of that header in words, or why the two do not fit.
 pub fn reply(header: Header, request: &[u8], reply: &[u8]) -> Result<String, String> {
     if request.len() != reply.len() {
@@ -52,27 +56,34 @@ fn title(header: Header, control: u32) -> String {
 
 /// The line of one field; of the entities of code 20 and the references of code 30 a line for each phy.
 fn shown(field: &Field, sent: &[u8], got: &[u8], success: bool) -> String {
-    let part = field.at..field.at + field.size;
-    let changed = sent[part.clone()] != got[part.clone()];
-    let value = match success {
-        true => meaning(field, got),
-        false => field.show(got),
-    };
-    let phys = |size: usize, count: usize, words: fn(&[u8]) -> String| -> String {
-        let each = got[part.clone()].chunks(size).take(count).enumerate();
-        each.map(|(n, phy)| row(&format!("phy {n}"), &words(phy), changed))
-            .collect()
-    };
+    let [before, part] = [sent, got].map(|body| &body[field.at..field.at + field.size]);
     match field.name {
-        "entities" => phys(64, usize::from(got[0]).min(32), entity_words),
+        "entities" => phys(before, part, ENTITY, got[0].into(), entity_words),
         "references" if success => {
-            let count = filled(&got[part.clone()]);
-            let rest = "00*36 each".to_string();
-            let behind = (count < 32).then(|| row(&others(count), &rest, changed));
-            phys(CONNECTOR_BYTES, count, connector_words) + &behind.unwrap_or_default()
+            let count = filled(part);
+            let behind = count * CONNECTOR_BYTES;
+            let rest = match count {
+                PHYS => String::new(),
+                _ => row(
+                    &others(count),
+                    "00*36 each",
+                    before[behind..] != part[behind..],
+                ),
+            };
+            phys(before, part, CONNECTOR_BYTES, count, connector_words) + &rest
         }
-        _ => row(field.name, &value, changed),
+        _ if success => row(field.name, &meaning(field, got), before != part),
+        _ => row(field.name, &field.show(got), before != part),
     }
+}
+
+/// A line for each of the first phys in a list of structures of that size.
+fn phys(sent: &[u8], got: &[u8], size: usize, count: usize, words: fn(&[u8]) -> String) -> String {
+    let each = sent.chunks(size).zip(got.chunks(size)).take(count);
+    let line = |(n, (before, phy)): (usize, (&[u8], &[u8]))| {
+        row(&format!("phy {n}"), &words(phy), before != phy)
+    };
+    each.enumerate().map(line).collect()
 }
 
 /// How many references there are up to the last that is not zero. A reply of code 30 does not count the phys.
@@ -85,7 +96,7 @@ fn filled(references: &[u8]) -> usize {
 fn others(first: usize) -> String {
     match first {
         31 => "phy 31".to_string(),
-        _ => format!("phys {first} to 31"),
+        first => format!("phys {first} to 31"),
     }
 }
 

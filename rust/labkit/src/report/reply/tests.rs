@@ -106,9 +106,9 @@ fn a_front_page_in_words() {
         ),
         "get-connector-info (30): 0 success
 * marks what the reply changed
-* phy 0              connector \"\", pinout 0, location 0
+  phy 0              connector \"\", pinout 0, location 0
 * phy 1              connector \"J1\", pinout sff-8484-lane-1, location internal
-* phys 2 to 31       00*36 each
+  phys 2 to 31       00*36 each
 "
     );
     let denied = text("get-connector-info", "return-code=4");
@@ -116,7 +116,7 @@ fn a_front_page_in_words() {
     let full = text("get-connector-info", "references=01*1152");
     assert_eq!(full.lines().count(), 34);
     let but_one = text("get-connector-info", "references=01*1116+00*36");
-    assert!(but_one.ends_with("\n* phy 31             00*36 each\n"));
+    assert!(but_one.ends_with("\n  phy 31             00*36 each\n"));
 }
 
 #[test]
