@@ -1,5 +1,6 @@
 //! Files read whole, with faults of one line that name the file.
 
+use labkit::adapter::is_old;
 use labkit::Fault;
 use std::fs;
 use std::path::Path;
@@ -40,7 +41,12 @@ pub fn part(
     let (described, made) = (folder.join(text), folder.join(binary));
     if described.exists() {
         let bytes = parse(&words(&described)?).map_err(|fault| at(&described, fault))?;
-        let warning = beside(&described, &made, Some(&bytes))?;
+        let warning = match described_before(&made, &bytes) {
+            true => Some(format!(
+                "{text} is run; {binary} beside it is what it described in the old layout: make it anew with labkit adapter"
+            )),
+            false => beside(&described, &made, Some(&bytes))?,
+        };
         return Ok(Part {
             from: text.to_string(),
             bytes,
@@ -52,6 +58,11 @@ pub fn part(
         return Err(format!("{folder} has neither {text} nor {binary}"));
     }
     as_it_is(folder, binary)
+}
+
+/// Whether a binary is an adapter file of the old layout that has all that the description says and that layout had.
+fn described_before(made: &Path, bytes: &[u8]) -> bool {
+    read(made).is_ok_and(|old| is_old(&old) && bytes.starts_with(&old))
 }
 
 /// A file's own bytes.

@@ -1,7 +1,10 @@
 //! What runs left: every field of the states but the level, and every sector of the disks, where they differ.
 
 use crate::state::*;
-use labkit::adapter::{phy_value, DRIVER as DRIVER_FIELDS, PHY, ROW};
+use labkit::adapter::{
+    phy_value, CONNECTOR, CONTROLLER as CONTROLLER_FIELDS, DRIVER as DRIVER_FIELDS, PHY, ROW,
+    STATUS as STATUS_FIELDS,
+};
 use labkit::field::Field;
 use labkit::report::{bytes_differ, values_differ, Difference};
 
@@ -33,7 +36,7 @@ impl Group {
         }
     }
 
-    /// The group of a phy's field.
+    /// The group of a field.
     fn of(field: &Field) -> Group {
         match field.name {
             "programmed-minimum" | "programmed-maximum" => Group::Rates,
@@ -67,23 +70,29 @@ pub fn left(states: &[&[u8]], media: &[&[u8]]) -> Vec<Left> {
         let counts = parts(states, at, 1);
         found.extend(values_differ(name.to_string(), &counts, |s| s[0].to_string()).map(table));
     }
-    let driver = parts(states, DRIVER, DRIVER_SIZE);
-    found.extend(
-        fields("driver ", &DRIVER_FIELDS, &driver).map(|(_, difference)| table(difference)),
-    );
-    for n in 0..PHYS {
-        let phys = parts(states, phy_at(n), PHY_SIZE);
-        let of_phy = |(field, difference)| Left {
+    let mut tables = |prefix: &str, fields_of: &[Field], at, size| {
+        let structures = parts(states, at, size);
+        let differ = fields(prefix, fields_of, &structures);
+        found.extend(differ.map(|(field, difference)| Left {
             group: Group::of(field),
             difference,
-        };
-        found.extend(fields(&format!("phy {n} "), &PHY, &phys).map(of_phy));
+        }));
+    };
+    tables("driver ", &DRIVER_FIELDS, DRIVER, DRIVER_SIZE);
+    tables(
+        "controller ",
+        &CONTROLLER_FIELDS,
+        CONTROLLER,
+        CONTROLLER_SIZE,
+    );
+    tables("controller ", &STATUS_FIELDS, STATUS, STATUS_SIZE);
+    for n in 0..PHYS {
+        let phy = format!("phy {n} ");
+        tables(&phy, &PHY, phy_at(n), PHY_SIZE);
+        tables(&phy, &CONNECTOR, connector_at(n), CONNECTOR_SIZE);
     }
     for i in 0..ROWS {
-        let rows = parts(states, row_at(i), ROW_SIZE);
-        found.extend(
-            fields(&format!("row {i} "), &ROW, &rows).map(|(_, difference)| table(difference)),
-        );
+        tables(&format!("row {i} "), &ROW, row_at(i), ROW_SIZE);
     }
     let sector = |(_, difference)| Left {
         group: Group::Sectors,
@@ -166,6 +175,37 @@ mod tests {
             ]
         );
         assert_eq!(found[1].difference.values, ["0 (unknown)", "9 (3.0 Gb/s)"]);
+    }
+
+    #[test]
+    fn controller_and_connectors() {
+        let state = vec![0; STATE_SIZE];
+        let mut other = state.clone();
+        (
+            other[CONTROLLER + 18],
+            other[STATUS],
+            other[connector_at(31) + 2],
+        ) = (5, 1, 1);
+        let found = left(&[&state, &other], &[]);
+        assert_eq!(groups(&found), [Group::Tables; 3]);
+        let shown: Vec<String> = found
+            .iter()
+            .map(|left| {
+                format!(
+                    "{}: {}",
+                    left.difference.what,
+                    left.difference.values.join(" ")
+                )
+            })
+            .collect();
+        assert_eq!(
+            shown,
+            [
+                "controller class: 0 5 (hba)",
+                "controller status: 0 1 (good)",
+                "phy 31 pinout: 0 00010000h (sff-8484-lane-1)"
+            ]
+        );
     }
 
     #[test]

@@ -9,6 +9,7 @@ mod asked;
 mod beside;
 mod exercise;
 mod files;
+mod front;
 mod left;
 mod level;
 mod linux;

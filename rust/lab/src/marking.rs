@@ -3,6 +3,7 @@
 use crate::asked::{twin, Asked, Twin};
 use crate::beside::Beside;
 use crate::exercise::Exercise;
+use crate::front::Front;
 use crate::left::{self, Group, Left};
 use crate::level;
 use crate::linux;
@@ -12,6 +13,7 @@ use crate::row::Row;
 use crate::run::Run;
 use crate::verdict;
 use labkit::adapter::{warnings as adapter_warnings, PROGRAM_PHYS};
+use labkit::report::Difference;
 use labkit::session::{Request, Session, STP_PASSTHRU};
 use std::collections::HashSet;
 use std::path::Path;
@@ -24,6 +26,8 @@ pub struct Marking<'a> {
     /// The runs as they ended.
     pub runs: Vec<Run>,
     pub rows: Vec<Row>,
+    /// The lines of the front page that the session asked for, with each run's words.
+    pub front: Vec<Difference>,
     pub left: Vec<Left>,
     /// Where the session is cut.
     pub cut: Option<String>,
@@ -63,6 +67,7 @@ impl<'a> Marking<'a> {
             requests: session.requests,
             runs,
             rows: Vec::new(),
+            front: Vec::new(),
             left: Vec::new(),
             explained: None,
             no_mark,
@@ -81,9 +86,11 @@ impl<'a> Marking<'a> {
     /// Sends every request to every run.
     fn run(&mut self, mut beside: Beside, mut replies: Option<Replies>) -> Result<(), String> {
         let mut progress = Progress::new(self.requests.len());
+        let mut front = Front::new(self.runs.len());
         for (i, request) in self.requests.iter().enumerate() {
             let above = beside.above(request, &self.runs);
             self.runs.iter_mut().for_each(|run| run.handle(request));
+            front.see(request, &self.runs);
             let row = Row::of(&self.runs, above);
             beside.handle(request, &row, &self.runs[0]);
             if let Some(replies) = &mut replies {
@@ -93,6 +100,7 @@ impl<'a> Marking<'a> {
             progress.at(i + 1);
         }
         progress.end();
+        self.front = front.lines(self.exercise.phys());
         self.left = self.left_behind();
         self.explained = beside.explained(&self.runs[0]);
         let contradiction = linux::contradiction(self);

@@ -9,6 +9,12 @@ pub const PHYS: usize = 32;
 pub const PHY_SIZE: usize = 104;
 pub const ROWS: usize = 64;
 pub const ROW_SIZE: usize = 20;
+/// Behind the rows the controller's configuration, its status, and a connector for each phy.
+pub const CONTROLLER: usize = row_at(ROWS);
+pub const CONTROLLER_SIZE: usize = 176;
+pub const STATUS: usize = CONTROLLER + CONTROLLER_SIZE;
+pub const STATUS_SIZE: usize = 36;
+pub const CONNECTOR_SIZE: usize = 36;
 
 /// The bytes of a disk, and of a sector.
 pub const DISK: usize = 8192;
@@ -20,6 +26,10 @@ pub const fn phy_at(n: usize) -> usize {
 
 pub const fn row_at(i: usize) -> usize {
     phy_at(PHYS) + ROW_SIZE * i
+}
+
+pub const fn connector_at(n: usize) -> usize {
+    STATUS + STATUS_SIZE + CONNECTOR_SIZE * n
 }
 
 /// A part of each state.
@@ -35,6 +45,8 @@ mod tests {
     #[test]
     fn the_parts_fill_a_state() {
         assert_eq!((phy_at(0), row_at(0)), (177, 3505));
-        assert_eq!(row_at(ROWS), library::STATE_SIZE);
+        assert_eq!((CONTROLLER, STATUS, connector_at(0)), (4785, 4961, 4997));
+        assert_eq!(connector_at(PHYS), 6149);
+        assert_eq!(connector_at(PHYS), library::STATE_SIZE);
     }
 }

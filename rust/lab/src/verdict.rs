@@ -3,10 +3,12 @@
 use crate::exercise::Exercise;
 use crate::run::Run;
 use crate::state::DISK;
+use labkit::adapter::is_old;
 use labkit::names::{call_words, level_name};
 use labkit::session::Session;
 
 const BAD_TEXT: u32 = 101;
+const FILE_LENGTH: u32 = 102;
 const MEDIUM_LENGTH: u32 = 106;
 
 const NOTHING_ASKED: &str =
@@ -67,8 +69,24 @@ fn refusal(exercise: &Exercise, text: &str, number: u32) -> String {
             exercise.medium().len(),
             exercise.phys()
         ),
-        _ => format!("the opening refuses the adapter of {}: {words}", exercise.adapter.from),
+        _ => {
+            let from = &exercise.adapter.from;
+            let why = layout(number, from, &exercise.adapter.bytes).unwrap_or_default();
+            format!("the opening refuses the adapter of {from}: {words}{why}")
+        }
     }
+}
+
+/// What is to be said of an adapter whose length is that of the old layout.
+fn layout(number: u32, from: &str, file: &[u8]) -> Option<String> {
+    let remedy = match from.ends_with(".txt") {
+        true => "without its length line it is of the present one",
+        false => "labkit upgrade OLD NEW makes a file of the present one",
+    };
+    (number == FILE_LENGTH && is_old(file)).then(|| {
+        let length = file.len();
+        format!("; {length} bytes are the old layout, which ended behind the rows: {remedy}")
+    })
 }
 
 /// Where a session is cut: behind so many requests, of which the bytes before the tail consist.
@@ -97,6 +115,22 @@ mod tests {
             let reason = Some("request 2".to_string());
             assert!(begins(after(reason, past_header, None), "request 2"));
         }
+    }
+
+    #[test]
+    fn files_of_the_old_layout() {
+        let now = labkit::adapter::parse("phy\nphy\nrow").unwrap();
+        let said = |number, file: &[u8]| layout(number, "adapter.bin", file);
+        let words = "; 2048 bytes are the old layout, which ended behind the rows: labkit upgrade OLD NEW makes a file of the present one";
+        assert_eq!(said(102, &now[..2048]), Some(words.to_string()));
+        for length in [0, 512, 1536, 2047, 2049, 2560, now.len()] {
+            assert_eq!(said(102, &now[..length]), None, "{length}");
+        }
+        assert_eq!(said(103, &now[..2048]), None);
+        let text = layout(102, "adapter.txt", &now[..2048]);
+        assert!(text.is_some_and(
+            |words| words.ends_with("rows: without its length line it is of the present one")
+        ));
     }
 
     #[test]

@@ -1,6 +1,7 @@
 //! A named field of a structure: where it stands, how long it is, and how its bytes are written as text. Tables of fields turn a
 //! line of a description into bytes and back.
 
+use crate::named::{self, Names};
 use crate::text::{Line, Word};
 use crate::value;
 use crate::Fault;
@@ -21,6 +22,10 @@ pub enum Kind {
     High,
     /// 28 bits: three bytes, the lowest first, and the low four bits of the next.
     Lba,
+    /// A little-endian number that may have one of these names.
+    Named(Names),
+    /// A little-endian number whose bits have these names.
+    Bits(Names),
 }
 
 #[derive(Debug, Clone, Copy, PartialEq, Eq)]
@@ -47,6 +52,14 @@ pub const fn bytes(name: &'static str, at: usize, size: usize) -> Field {
     field(name, at, size, Kind::Bytes)
 }
 
+pub const fn named(name: &'static str, at: usize, size: usize, names: Names) -> Field {
+    field(name, at, size, Kind::Named(names))
+}
+
+pub const fn bits(name: &'static str, at: usize, size: usize, names: Names) -> Field {
+    field(name, at, size, Kind::Bits(names))
+}
+
 pub const fn field(name: &'static str, at: usize, size: usize, kind: Kind) -> Field {
     Field {
         name,
@@ -71,13 +84,15 @@ impl Field {
                 _ => Err("takes no quoted text".into()),
             };
         }
-        match self.kind {
-            Kind::Text | Kind::Bytes => put_bytes(part, &value::bytes(&word.value)?),
-            _ => {
-                self.put_number(part, value::number(&word.value, self.most())? as u32);
-                Ok(())
-            }
-        }
+        let text = &word.value;
+        let n = match self.kind {
+            Kind::Text | Kind::Bytes => return put_bytes(part, &value::bytes(text)?),
+            Kind::Named(names) => named::one(text, names, self.most())?,
+            Kind::Bits(names) => named::bits(text, names, self.most())?,
+            _ => value::number(text, self.most())? as u32,
+        };
+        self.put_number(part, n);
+        Ok(())
     }
 
     /// The highest number that the field holds.
@@ -124,7 +139,20 @@ impl Field {
                 Some(text) => format!("\"{text}\""),
                 None => value::show_bytes(part),
             },
+            Kind::Named(names) => named::show_one(self.get(structure), names),
+            Kind::Bits(names) => named::show_bits(self.get(structure), names),
             _ => self.get(structure).to_string(),
+        }
+    }
+
+    /// What the structure holds here, for a person: a number that has a name with both, as `5 (hba)`.
+    pub fn words(&self, structure: &[u8]) -> String {
+        let shown = self.show(structure);
+        let n = self.get(structure);
+        match self.kind {
+            Kind::Named(names) if named::name(n, names).is_some() => format!("{n} ({shown})"),
+            Kind::Bits(_) if n != 0 => format!("{n:0digits$X}h ({shown})", digits = 2 * self.size),
+            _ => shown,
         }
     }
 }
@@ -171,7 +199,8 @@ mod tests {
     use super::*;
     use crate::text::lines;
 
-    const TABLE: [Field; 7] = [
+    const NAMES: Names = &[(1, "one"), (4, "four")];
+    const TABLE: [Field; 9] = [
         number("two", 0, 2),
         code("code", 2),
         bytes("bytes", 3, 2),
@@ -179,10 +208,12 @@ mod tests {
         field("low", 9, 1, Kind::Low),
         field("high", 9, 1, Kind::High),
         field("lba", 10, 4, Kind::Lba),
+        named("named", 14, 1, NAMES),
+        bits("bits", 15, 4, NAMES),
     ];
 
-    fn filled(words: &str) -> Result<[u8; 14], Fault> {
-        let mut structure = [0; 14];
+    fn filled(words: &str) -> Result<[u8; 19], Fault> {
+        let mut structure = [0; 19];
         let mut line = lines(&format!("x {words}"))?.remove(0);
         fill(&mut structure, &TABLE, &mut line)?;
         line.finish()?;
@@ -191,13 +222,23 @@ mod tests {
 
     #[test]
     fn every_kind_and_back() {
-        let words = "two=513 code=FFh bytes=0A0B text=\"ab\" low=9 high=8 lba=268435455";
+        let words = "two=513 code=FFh bytes=0A0B text=\"ab\" low=9 high=8 lba=268435455 named=four bits=one+four+80000000h";
         let structure = filled(words).unwrap();
         let expected = [
-            1, 2, 0xFF, 10, 11, b'a', b'b', 0, 0, 0x89, 0xFF, 0xFF, 0xFF, 0x0F,
+            1, 2, 0xFF, 10, 11, b'a', b'b', 0, 0, 0x89, 0xFF, 0xFF, 0xFF, 0x0F, 4, 5, 0, 0, 0x80,
         ];
         assert_eq!(structure, expected);
-        assert_eq!(differences(&structure, &[0; 14], &TABLE).join(" "), words);
+        assert_eq!(differences(&structure, &[0; 19], &TABLE).join(" "), words);
+    }
+
+    #[test]
+    fn names_in_words() {
+        let words = |line: &str, i: usize| TABLE[i].words(&filled(line).unwrap());
+        assert_eq!(words("named=1", 7), "1 (one)");
+        assert_eq!(words("named=2", 7), "2");
+        assert_eq!(words("bits=one+80h", 8), "00000081h (one+80h)");
+        assert_eq!(words("bits=0", 8), "0");
+        assert_eq!(words("two=7 text=\"a\"", 3), "\"a\"");
     }
 
     #[test]
@@ -212,5 +253,10 @@ mod tests {
             "line 1: text: the text has more than 4 bytes"
         );
         assert_eq!(fault("three=3"), "line 1: x has no field 'three'");
+        assert_eq!(fault("named=256"), "line 1: named: 256 is over 255");
+        assert_eq!(
+            fault("bits=one+five"),
+            "line 1: bits: 'five' is no number and none of one, four"
+        );
     }
 }

@@ -8,6 +8,7 @@
 pub mod adapter;
 pub mod fault;
 pub mod field;
+pub mod named;
 pub mod names;
 pub mod report;
 pub mod session;

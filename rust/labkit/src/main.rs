@@ -5,7 +5,7 @@ use labkit::session::{Form, Header, Request};
 use labkit::text::one_line;
 use labkit::{adapter, names, value};
 use std::env;
-use std::fs;
+use std::fs::{self, File};
 use std::io::{ErrorKind, Write};
 use std::process::ExitCode;
 
@@ -14,6 +14,7 @@ labkit adapter TEXT FILE        makes an adapter file from its description, for 
 labkit adapter --library TEXT FILE
                                 the same for the library and ./lab, which take 32
 labkit adapter-text FILE TEXT   describes an adapter file
+labkit upgrade OLD NEW          makes an adapter file from one of the layout that ended behind the rows; overwrites nothing
 labkit session TEXT FILE        makes a session from its description
 labkit session-text FILE TEXT   describes a session
 labkit reply REQUEST REPLY      shows a reply in words; both files hold a buffer in hexadecimal
@@ -27,7 +28,7 @@ labkit reply --both REQUESTS REPLIES N
 labkit reply --linux CODE REQUEST REPLY
                                 the reply to a Linux request with that control code, a number or a name
 
-'-' for the last file of adapter, adapter-text, session and session-text writes to standard output
+'-' for the last file of adapter, adapter-text, upgrade, session and session-text writes to standard output
 ";
 
 fn main() -> ExitCode {
@@ -43,6 +44,7 @@ fn main() -> ExitCode {
     let done = match words[..] {
         ["adapter", "--library", from, to] => make_adapter(from, to, adapter::MOST_PHYS),
         ["adapter", from, to] => make_adapter(from, to, adapter::PROGRAM_PHYS),
+        ["upgrade", from, to] => upgrade(from, to),
         ["session", "--both", from, to] => make(from, to, Form::Both),
         ["session", from, to] => make(from, to, Form::Program),
         ["adapter-text", from, to] => show(from, to, adapter::describe),
@@ -90,6 +92,22 @@ fn make_adapter(from: &str, to: &str, most: usize) -> Result<(), String> {
         say(&format!("warning: {from}: {line}"));
     }
     write(to, &file)
+}
+
+/// Makes an adapter file of the present layout from one of the old, in a file that was not there before.
+fn upgrade(from: &str, to: &str) -> Result<(), String> {
+    let file = adapter::upgrade(&read(from)?).map_err(|reason| format!("{from}: {reason}"))?;
+    if to == "-" {
+        return write(to, &file);
+    }
+    let mut new = match File::create_new(to) {
+        Err(error) if error.kind() == ErrorKind::AlreadyExists => {
+            return Err(format!("{to} is there already, and nothing is overwritten"))
+        }
+        made => made.map_err(|error| format!("{to}: {error}"))?,
+    };
+    new.write_all(&file)
+        .map_err(|error| format!("{to}: {error}"))
 }
 
 /// Makes a session from its description.

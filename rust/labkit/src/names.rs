@@ -1,6 +1,8 @@
 //! The names of numbers: control codes and return codes from 001's section 10, the call's own numbers from document 01, and the
 //! few others that a reply shows.
 
+use crate::named::Names;
+
 /// Control codes under their names of section 10, without `CC_CSMI_SAS_` and in lower case.
 pub const CONTROL_CODES: [(u32, &str); 18] = [
     (1, "get-driver-info"),
@@ -79,6 +81,70 @@ const DEVICE_TYPES: [(u32, &str); 4] = [
     (0x30, "fanout expander"),
 ];
 
+/// uSlotNumber, SLOT_NUMBER_UNKNOWN.
+pub const SLOTS: Names = &[(0xFFFF, "unknown")];
+
+/// bControllerClass.
+pub const CLASSES: Names = &[(5, "hba")];
+
+/// bIoBusType.
+pub const BUSES: Names = &[
+    (0, "isa"),
+    (1, "eisa"),
+    (2, "mca"),
+    (3, "pci"),
+    (4, "pcmcia"),
+];
+
+/// uControllerFlags.
+pub const CONTROLLER_FLAGS: Names = &[
+    (0x0000_0001, "sas-hba"),
+    (0x0000_0002, "sas-raid"),
+    (0x0000_0004, "sata-hba"),
+    (0x0000_0008, "sata-raid"),
+    (0x0001_0000, "fwd-support"),
+    (0x0002_0000, "fwd-online"),
+    (0x0004_0000, "fwd-sreset"),
+    (0x0008_0000, "fwd-hreset"),
+    (0x0010_0000, "fwd-rrom"),
+];
+
+/// uStatus of a controller.
+pub const STATUSES: Names = &[(1, "good"), (2, "failed"), (3, "offline"), (4, "poweroff")];
+
+/// uOfflineReason.
+pub const OFFLINE_REASONS: Names = &[
+    (0, "no-reason"),
+    (1, "initializing"),
+    (2, "backside-bus-degraded"),
+    (3, "backside-bus-failure"),
+];
+
+/// uPinout. An opening refuses all other bits.
+pub const PINOUTS: Names = &[
+    (0x0000_0001, "unknown"),
+    (0x0000_0002, "sff-8482"),
+    (0x0000_0100, "sff-8470-lane-1"),
+    (0x0000_0200, "sff-8470-lane-2"),
+    (0x0000_0400, "sff-8470-lane-3"),
+    (0x0000_0800, "sff-8470-lane-4"),
+    (0x0001_0000, "sff-8484-lane-1"),
+    (0x0002_0000, "sff-8484-lane-2"),
+    (0x0004_0000, "sff-8484-lane-3"),
+    (0x0008_0000, "sff-8484-lane-4"),
+];
+
+/// bLocation; the last two are the published header's alone.
+pub const LOCATIONS: Names = &[
+    (0x01, "unknown"),
+    (0x02, "internal"),
+    (0x04, "external"),
+    (0x08, "switchable"),
+    (0x10, "auto"),
+    (0x20, "not-present"),
+    (0x80, "not-connected"),
+];
+
 fn look_up(table: &[(u32, &'static str)], number: u32) -> Option<&'static str> {
     table.iter().find(|row| row.0 == number).map(|row| row.1)
 }
@@ -148,6 +214,7 @@ fn with_name(number: u32, name: Option<&str>) -> String {
 #[cfg(test)]
 mod tests {
     use super::*;
+    use crate::named::mask;
 
     #[test]
     fn names_of_section_10() {
@@ -169,5 +236,17 @@ mod tests {
     fn no_number_twice() {
         let rising = |table: &[(u32, &str)]| table.windows(2).all(|w| w[0].0 < w[1].0);
         assert!(rising(&CONTROL_CODES) && rising(&RETURN_CODES) && rising(&CALL_NUMBERS));
+        for names in [BUSES, STATUSES, OFFLINE_REASONS] {
+            assert!(rising(names));
+        }
+    }
+
+    #[test]
+    fn names_of_bits() {
+        for names in [CONTROLLER_FLAGS, PINOUTS, LOCATIONS] {
+            assert!(names.windows(2).all(|w| w[0].0 < w[1].0));
+            assert!(names.iter().all(|row| row.0.count_ones() == 1));
+        }
+        assert_eq!(mask(PINOUTS), 0x000F_0F03);
     }
 }

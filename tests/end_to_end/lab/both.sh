@@ -23,7 +23,7 @@ try "session.both without a text runs as the text does" binary_alone
 dir=$(exercise_of both_binaries) && cp samples/writes/session "$dir/"
 try "session and session.both without a text" lab_refuses "$dir has session and session.both, and no session.txt; remove the one that is not to run" "$dir"
 dir=$(exercise_of both_edited) && grep -v 'command=30h' samples/linux/session.txt >"$dir/session.txt" && touch -d '-1 hour' "$dir/session.both"
-try "an edited text beside session.both" marks 1 "mark: 2 of 11 differ, 1 denied low, 1 Linux request above the low level" "$dir"
+try "an edited text beside session.both" marks 1 "mark: 2 of 14 differ, 1 denied low, 1 Linux request above the low level" "$dir"
 try "is run, with a warning" marks 1 "warning session.txt is run, and session.both beside it, which is not what it describes, is not" "$dir"
 touch -d '+1 hour' "$dir/session.both"
 try "a session.both put beside a text later" lab_refuses "$dir/session.both is newer than session.txt and is not what it describes; remove the one that is not to run" "$dir"
@@ -35,9 +35,9 @@ try "a session put beside it later" lab_refuses "$dir/session is newer than sess
 dir=$(exercise both_forms) && "$kit" session "$dir/session.txt" "$dir/session" && "$kit" session --both "$dir/session.txt" "$dir/session.both"
 try "both binaries of a text without Linux requests" unmarked warning "$dir"
 rm "$dir/session.txt" "$dir/session"
-try "session.both with the first header alone" marks 0 "mark: 0 of 12 differ, 0 denied low; what they left is the same" "$dir"
+try "session.both with the first header alone" marks 0 "mark: 0 of 15 differ, 0 denied low; what they left is the same" "$dir"
 mv "$dir/session.both" "$dir/session"
-try "a session.both under the name session" marks 0 "warning session also reads as a session of both headers, of 12 requests; if it is one, its name is session.both" "$dir"
+try "a session.both under the name session" marks 0 "warning session also reads as a session of both headers, of 15 requests; if it is one, its name is session.both" "$dir"
 dir=$(exercise_of both_pipe) && rm "$dir/session.both" && mkfifo "$dir/session.both"
 try "a pipe for session.both" lab_refuses "$dir/session.both is not a file" "$dir"
 dir=$(exercise_of both_garbage) && garbage "$dir/session.both"
@@ -48,16 +48,16 @@ try "an empty session.both" no_mark "the session of session.both is empty" "$dir
 # 2: where a session of both headers ends
 dir=$(exercise_of both_cut) && head -c 250 samples/linux/session.both >"$dir/session.both"
 try "a request cut short" marks 0 "mark: 0 of 1 up to the cut differ, 0 denied low, 0 Linux requests above the low level" "$dir"
-try "and where" marks 0 "$cut_both 2, byte 206: its length says 2072 bytes, and there are 32" "$dir"
+try "and where" marks 0 "$cut_both 2, byte 208: its length says 56 bytes, and there are 30" "$dir"
 head -c 215 samples/linux/session.both >"$dir/session.both"
-try "what stands before a request cut short" marks 0 "$cut_both 2, byte 206: of the 12 bytes before it there are 9" "$dir"
+try "what stands before a request cut short" marks 0 "$cut_both 2, byte 208: of the 12 bytes before it there are 7" "$dir"
 head -c 100 samples/linux/session.both >"$dir/session.both"
-try "a session cut in its first request" no_mark "$cut_both 1, byte 0: its length says 194 bytes, and there are 88" "$dir"
-{ head -c 206 samples/linux/session.both && bytes 2 20 0 && tail -c +207 samples/linux/session.both; } >"$dir/session.both"
-try "a header of another number" marks 0 "$cut_both 2, byte 206: its header is 2, which is neither 0, the first, nor 1, Linux's" "$dir"
-{ head -c 206 samples/linux/session.both && bytes 0 20 0 && tail -c +207 samples/linux/session.both; } >"$dir/session.both"
-try "the first header with a control code" marks 0 "$cut_both 2, byte 206: it has the first header, and the control code before it is 20, where 0 has to stand" "$dir"
-{ head -c 206 samples/linux/session.both && bytes 1 20 40000 && head -c 40000 /dev/zero; } >"$dir/session.both"
+try "a session cut in its first request" no_mark "$cut_both 1, byte 0: its length says 196 bytes, and there are 88" "$dir"
+{ head -c 208 samples/linux/session.both && bytes 2 20 0 && tail -c +209 samples/linux/session.both; } >"$dir/session.both"
+try "a header of another number" marks 0 "$cut_both 2, byte 208: its header is 2, which is neither 0, the first, nor 1, Linux's" "$dir"
+{ head -c 208 samples/linux/session.both && bytes 0 20 0 && tail -c +209 samples/linux/session.both; } >"$dir/session.both"
+try "the first header with a control code" marks 0 "$cut_both 2, byte 208: it has the first header, and the control code before it is 20, where 0 has to stand" "$dir"
+{ head -c 208 samples/linux/session.both && bytes 1 20 40000 && head -c 40000 /dev/zero; } >"$dir/session.both"
 try "a request over 32,768 bytes" marks 0 "mark: 0 of 2 differ" "$dir"
 dir=$(with both_tail session.txt "linux get-phy-info\ntail 01000000 16000000 28000000 0102\n")
 try "a tail behind Linux requests" marks 0 "$cut_both 2, byte 2084: its length says 40 bytes, and there are 2" "$dir"
@@ -116,7 +116,7 @@ round() {
 }
 every_cut() {
     local end
-    for end in $(seq 0 97 11402) 1 4 8 11 12 13 205 206 207; do
+    for end in $(seq 0 97 12862) 1 4 8 11 12 13 207 208 209; do
         head -c "$end" samples/linux/session.both >"$work/part" && round "$work/part" || return 1
     done
 }
@@ -128,7 +128,7 @@ altered() {
 }
 try "cut sessions of both headers come back" every_cut
 try "altered sessions of both headers come back" altered
-try "labkit session, a text with Linux requests" refuses 1 "labkit: samples/linux/session.txt: line 3: the program's session has the first header alone; a Linux request stands in a session.both: labkit session --both" "$kit" session samples/linux/session.txt "$work/x"
+try "labkit session, a text with Linux requests" refuses 1 "labkit: samples/linux/session.txt: line 4: the program's session has the first header alone; a Linux request stands in a session.both: labkit session --both" "$kit" session samples/linux/session.txt "$work/x"
 try "labkit session --both to standard output" eval '"$kit" session --both samples/linux/session.txt - | cmp - samples/linux/session.both'
 bad_line() {
     echo "$2" >"$work/line.txt"
@@ -149,14 +149,14 @@ both_replies() {
     "$lab" --replies "$out" samples/linux >/dev/null
     diff <(ls "$out") <(printf '%s\n' high.codes.both high.replies.both low.codes.both low.replies.both requests.both) &&
         cmp "$out/requests.both" samples/linux/session.both &&
-        "$kit" reply --both "$out/requests.both" "$out/high.replies.both" 7 >"$work/words" &&
+        "$kit" reply --both "$out/requests.both" "$out/high.replies.both" 10 >"$work/words" &&
         grep -qxF 'linux stp-passthru (25): 0 success' "$work/words" && grep -qF '* data               5A*512' "$work/words" &&
-        "$kit" reply --both "$out/requests.both" "$out/low.replies.both" 8 | grep -qxF 'set-phy-info (21): 4 denied, write attempted' &&
-        "$kit" reply --both "$out/requests.both" "$out/low.replies.both" 12 | grep -qxF 'linux unknown control code (CC770014h): 2 bad control code' &&
-        diff <(printf '%s\n' 'request call code' '1 0 0') <(head -n 2 "$out/low.codes.both") && grep -qx '8 0 4' "$out/low.codes.both"
+        "$kit" reply --both "$out/requests.both" "$out/low.replies.both" 11 | grep -qxF 'set-phy-info (21): 4 denied, write attempted' &&
+        "$kit" reply --both "$out/requests.both" "$out/low.replies.both" 15 | grep -qxF 'linux unknown control code (CC770014h): 2 bad control code' &&
+        diff <(printf '%s\n' 'request call code' '1 0 0') <(head -n 2 "$out/low.codes.both") && grep -qx '11 0 4' "$out/low.codes.both"
 }
 try "--replies with Linux requests, and labkit reply --both on them" both_replies
-try "labkit reply --both, no such request" refuses 1 "labkit: $work/both_replies/requests.both has requests 1 to 12, and no 13" "$kit" reply --both "$work/both_replies/requests.both" "$work/both_replies/low.replies.both" 13
+try "labkit reply --both, no such request" refuses 1 "labkit: $work/both_replies/requests.both has requests 1 to 15, and no 16" "$kit" reply --both "$work/both_replies/requests.both" "$work/both_replies/low.replies.both" 16
 no_codes="of both headers, and the program, whose codes are compared, has the first alone; Linux requests run as Full, so their codes show no need: ./lab gives the mark"
 try "labkit compare on codes of both headers" refuses 1 "labkit: $work/both_replies/low.codes.both: $no_codes" "$kit" compare samples/writes/session "$work/both_replies/low.codes.both" "$work/both_replies/high.codes.both"
 try "labkit compare on a session of both headers" refuses 1 "labkit: samples/linux/session.both: $no_codes" "$kit" compare samples/linux/session.both "$work/replies/low.codes" "$work/replies/high.codes"

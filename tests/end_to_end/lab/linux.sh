@@ -26,7 +26,7 @@ lines = list(csv.DictReader(open(sys.argv[2])))
 requests = [line for line in lines if line["kind"] == "request"]
 assert [request["header"] for request in sheet["requests"]] == [line["header"] for line in requests]
 above = [request["number"] for request in sheet["requests"] if request["above"][0]]
-assert above == [int(line["number"]) for line in requests if line["denied under the first header"]] == [5, 6]
+assert above == [int(line["number"]) for line in requests if line["denied under the first header"]] == [8, 9]
 assert sheet["mark"]["above"] == [run["above"] for run in sheet["runs"]] == [2, 0]
 assert [line["low"] for line in lines if line["kind"] == "above"] == ["2"]
 END
@@ -73,7 +73,7 @@ dir=$(exercise linux_asked) && echo "linux stp-passthru phy=2 destination=5000C5
 try "a SAS device that Linux asks like a disk" marks 0 "warning phy 2: what is attached looks like a disk" "$dir"
 
 # 4: no mark where no request gets past its header's checks
-dir=$(with linux_headers session.txt "linux get-phy-info direction=2\nlinux get-phy-info direction=256\nlinux get-phy-info length=2052\nlinux get-phy-info length=2073\nlinux get-phy-info length=19\nlinux get-phy-info length=0\nlinux request control=99\nlinux get-cntlr-config\nlinux get-phy-info control=CC770014h\nlinux raw control=20 00*19\nlinux raw control=20\n")
+dir=$(with linux_headers session.txt "linux get-phy-info direction=2\nlinux get-phy-info direction=256\nlinux get-phy-info length=2052\nlinux get-phy-info length=2073\nlinux get-phy-info length=19\nlinux get-phy-info length=0\nlinux request control=99\nlinux ssp-passthru\nlinux get-phy-info control=CC770014h\nlinux raw control=20 00*19\nlinux raw control=20\n")
 try "no Linux request gets past its header's checks" no_mark "no request gets past its header's checks" "$dir"
 try "Direction 2 is 3" no_mark " 1 linux get-phy-info 3 invalid parameter 3 invalid parameter" "$dir"
 try "Direction 256 is 3" no_mark " 2 linux get-phy-info 3 invalid parameter 3 invalid parameter" "$dir"
@@ -98,20 +98,20 @@ page=$work/linux.html
 linux_page() {
     "$lab" --html "$page" samples/linux >"$work/printed" 2>"$work/errors"
     [ $? -eq 1 ] && diff /dev/null "$work/errors" && self_contained &&
-        has 1 '<p class="mark">mark: 2 of 12 differ, 1 denied low, 2 Linux requests above the low level; 1 value and 0 sectors left differ</p>' &&
-        has 1 '<p class="warning">warning: requests 5 and 6 have the Linux header' &&
-        has 2 '<tr class="above"><td class="number">[56]</td>.*<td class="word">runs as Full; denied low under the first header</td></tr>' &&
-        has 2 '<tr class="differs"><td class="number">[89]</td>' && has 11 '<td class="request">linux ' &&
-        has 1 '<th>no</th><th>request</th><th>low</th><th>high</th><th>remarks</th>' && has 3 '<th>low</th><th>high</th><th>differs</th>'
+        has 1 '<p class="mark">mark: 2 of 15 differ, 1 denied low, 2 Linux requests above the low level; 1 value and 0 sectors left differ</p>' &&
+        has 1 '<p class="warning">warning: requests 8 and 9 have the Linux header' &&
+        has 2 '<tr class="above"><td class="number">[89]</td>.*<td class="word">runs as Full; denied low under the first header</td></tr>' &&
+        has 2 '<tr class="differs"><td class="number">1[12]</td>' && has 14 '<td class="request">linux ' &&
+        has 1 '<th>no</th><th>request</th><th>low</th><th>high</th><th>remarks</th>' && has 4 '<th>low</th><th>high</th><th>differs</th>'
 }
 try "the page of Linux requests" linux_page
 # With all levels the colour goes by Restricted: None denies what reads, too.
 linux_levels_page() {
     "$lab" --levels --html "$page" samples/linux >/dev/null
     [ $? -eq 1 ] && has 2 '<tr class="above"><td class="number">[0-9]*</td>' &&
-        has 2 '<tr class="above"><td class="number">[56]</td>.*runs as Full; denied at None, Restricted and Limited under the first header</td></tr>' &&
-        has 5 '<tr class="same"><td class="number">[0-9]*</td>.*<td class="word">runs as Full; denied at None under the first header</td></tr>' &&
-        has 2 '<tr class="differs"><td class="number">[89]</td>' &&
+        has 2 '<tr class="above"><td class="number">[89]</td>.*runs as Full; denied at None, Restricted and Limited under the first header</td></tr>' &&
+        has 8 '<tr class="same"><td class="number">[0-9]*</td>.*<td class="word">runs as Full; denied at None under the first header</td></tr>' &&
+        has 2 '<tr class="differs"><td class="number">1[12]</td>' &&
         has 1 '<th>None</th><th>Restricted</th><th>Limited</th><th>Full</th><th>remarks</th>'
 }
 try "the page of Linux requests at all levels" linux_levels_page
@@ -127,7 +127,7 @@ awk -v file="$work/script" 'BEGIN { while ((getline line < file) > 0) script[n++
 linux_in_seconds() {
     local start=$SECONDS
     cp samples/linux/low.txt samples/linux/high.txt "$1/" &&
-        marks 1 "33334 Linux requests above the low level" --csv "$1" && [ $((SECONDS - start)) -lt 60 ]
+        marks 1 "26666 Linux requests above the low level" --csv "$1" && [ $((SECONDS - start)) -lt 60 ]
 }
 try "200,000 requests of both headers in seconds" linux_in_seconds "$dir"
 rm -r "$dir"

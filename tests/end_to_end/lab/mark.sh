@@ -64,13 +64,13 @@ dir=$(with empty_text session.txt "# nothing\n")
 try "a session of comments" no_mark "the session of session.txt is empty" "$dir"
 dir=$(with empty_file session "") && rm "$dir/session.txt"
 try "an empty session" no_mark "the session of session is empty" "$dir"
-dir=$(with headers session.txt 'get-phy-info signature="CSMIALL"\nget-phy-info header-length=27\nget-phy-info length=9\nraw 0102\nrequest control=99\nget-cntlr-config\n')
+dir=$(with headers session.txt 'get-phy-info signature="CSMIALL"\nget-phy-info header-length=27\nget-phy-info length=9\nraw 0102\nrequest control=99\nssp-passthru\n')
 try "no request gets past its header's checks" no_mark "no request gets past its header's checks" "$dir"
 try "its answers are shown" no_mark "2 bad control code" "$dir"
 dir=$(with one_header session.txt "get-link-errors reset=2\nraw 0102\n")
 try "code 3 of a request's own check is past its header" marks 0 "mark: 0 of 2 differ, 0 denied low" "$dir"
 try "a cut session is marked up to the cut" marks 1 "mark: 3 of 16 up to the cut differ, 3 denied low" samples/refusals
-try "and says where" marks 1 "the session is cut at request 17, byte 3567: its length says 28 bytes, and there are 3" samples/refusals
+try "and says where" marks 1 "the session is cut at request 17, byte 3391: its length says 28 bytes, and there are 3" samples/refusals
 dir=$(with cut_length session.txt "get-phy-info\ntail 0102\n")
 try "a length cut short" marks 0 "the session is cut at request 2, byte 2084: of its length of 4 bytes there are 2" "$dir"
 dir=$(with oversized session.txt "get-phy-info\ntail 01800000+00*40000\n")
@@ -99,11 +99,11 @@ try "an entry behind a line end" marks 1 "warning high.txt has no entry CSMI=, s
 # 7: what free bytes make of a console
 odd() {
     local dir
-    dir=$(exercise "$1") && sed -i "3s/\$/ $2/" "$dir/adapter.txt" && echo "$dir"
+    dir=$(exercise "$1") && sed -i "/^phy .*0001 /s/\$/ $2/" "$dir/adapter.txt" && echo "$dir"
 }
 try "identify type 0" marks 0 "warning phy 0: its own identify device type is 0" "$(odd identify device-type=0)"
 try "an attached phy identifier" marks 0 "warning phy 0: the attached phy identifier is 5" "$(odd attached attached-identifier=5)"
-dir=$(exercise protocols) && sed -i '5s/attached=sas/attached=sata attached-target=04h/' "$dir/adapter.txt"
+dir=$(exercise protocols) && sed -i 's/attached=sas/attached=sata attached-target=04h/' "$dir/adapter.txt"
 try "no SATA bit" marks 0 "warning phy 2: what is attached looks like a disk, but its target protocols 04h have no SATA bit" "$dir"
 dir=$(exercise asked) && echo "stp-passthru phy=2 destination=5000C50000000003 command=ECh data=00*512" >>"$dir/session.txt"
 try "a SAS device that is asked like a disk" marks 0 "warning phy 2: what is attached looks like a disk" "$dir"

@@ -57,7 +57,7 @@ try "a byte order mark before a level" lab_refuses "$dir/low.txt begins with a b
 dir=$(exercise mark_texts) && for text in adapter session; do
     { printf '\357\273\277' && sed 's/$/\r/' "samples/good/$text.txt"; } >"$dir/$text.txt"
 done
-try "byte order marks and CRLF in descriptions" marks 0 "mark: 0 of 12 differ" "$dir"
+try "byte order marks and CRLF in descriptions" marks 0 "mark: 0 of 15 differ" "$dir"
 
 # names and folders
 mkdir "$work/an exercise" && cp samples/writes/*.txt "$work/an exercise/"

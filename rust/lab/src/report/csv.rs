@@ -1,12 +1,12 @@
-//! The report as CSV: a line for each request, each value left differently, the numbers of denied requests, each warning, and the
-//! mark.
+//! The report as CSV: a line for each request, each line of the front page, each value left differently, the numbers of denied requests,
+//! each warning, and the mark.
 
 use super::escape::csv as cell;
 use super::{group, header_key, verdict};
 use crate::left::GROUPS;
 use crate::linux;
 use crate::marking::Marking;
-use labkit::report::request_words;
+use labkit::report::{request_words, Difference};
 
 /// The columns behind those of the runs; of a session with Linux requests two more.
 const ENDS: [&str; 2] = ["differs", "where"];
@@ -22,16 +22,12 @@ pub fn csv(marking: &Marking) -> String {
     for i in 0..marking.rows.len() {
         out.push_str(&line(count, of_row(marking, i).into_iter()));
     }
+    for found in &marking.front {
+        out.push_str(&line(count, valued("front", found).into_iter()));
+    }
     for kind in GROUPS {
         for difference in group(marking, kind) {
-            let first = [
-                kind.key().to_string(),
-                String::new(),
-                difference.what.clone(),
-            ];
-            let values = difference.values.iter().cloned();
-            let differs = ["yes".to_string()];
-            out.push_str(&line(count, first.into_iter().chain(values).chain(differs)));
+            out.push_str(&line(count, valued(kind.key(), difference).into_iter()));
         }
     }
     for (kind, what, number) in counts(marking) {
@@ -53,13 +49,24 @@ fn of_row(marking: &Marking, i: usize) -> Vec<String> {
     let mut cells = vec!["request".to_string(), number, request_words(request)];
     cells.extend(row.answers.iter().map(|answer| answer.words()));
     let names: Vec<&str> = row.differences.iter().map(|d| d.what.as_str()).collect();
-    let differs = if row.differs() { "yes" } else { "no" };
-    cells.extend([differs.to_string(), names.join("; ")]);
+    cells.extend([yes(row.differs()), names.join("; ")]);
     if marking.has_linux() {
         let deniers = linux::deniers(marking, row).join("; ");
         cells.extend([header_key(request).to_string(), deniers]);
     }
     cells
+}
+
+/// The cells of something that each run has a value of.
+fn valued(kind: &str, found: &Difference) -> Vec<String> {
+    let mut cells = vec![kind.to_string(), String::new(), found.what.clone()];
+    cells.extend(found.values.iter().cloned());
+    cells.push(yes(found.values_differ()));
+    cells
+}
+
+fn yes(yes: bool) -> String {
+    if yes { "yes" } else { "no" }.to_string()
 }
 
 type Count = fn(&Marking, usize) -> usize;

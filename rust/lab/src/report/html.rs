@@ -28,6 +28,9 @@ pub fn html(marking: &Marking) -> String {
     }
     if !marking.rows.is_empty() {
         out.push_str(&requests(marking));
+        if !marking.front.is_empty() {
+            out.push_str(&section("Front page", &front(marking)));
+        }
         out.push_str(&section("What the runs left and differs", &left(marking)));
         out.push_str(&section("Counters", &counters(marking)));
         out.push_str(&section("Sectors that a run changed", &changed(marking)));
@@ -109,6 +112,20 @@ fn valued(before: &[&str], difference: &Difference, behind: &str) -> Vec<String>
     cells.extend(difference.values.iter().map(|value| cell("value", value)));
     cells.push(cell("word", behind));
     cells
+}
+
+/// The front page, with the words of each run.
+fn front(marking: &Marking) -> String {
+    let mut rows = String::new();
+    for line_of_page in &marking.front {
+        let (class, word) = match line_of_page.values_differ() {
+            true => ("differs", "differs"),
+            false => ("same", ""),
+        };
+        let cells = valued(&[&line_of_page.what], line_of_page, word);
+        rows.push_str(&line(class, &cells));
+    }
+    table(&heads(marking, &["front page"], &["differs"]), &rows)
 }
 
 /// The values left differently, by group.

@@ -44,6 +44,7 @@ pub fn json(marking: &Marking) -> String {
                     .map(|(i, (sent, row))| request(marking, i + 1, sent, row)),
             ),
         ),
+        ("front_page", list(marking.front.iter().map(difference))),
         ("left", left(marking)),
         (
             "pairs",

@@ -18,6 +18,10 @@ pub fn text(marking: &Marking) -> String {
         out.push_str(&columns(&requests(marking)));
         out.push_str(&line(marking.cut.as_deref()));
         out.push('\n');
+        if !marking.front.is_empty() {
+            out.push_str(&columns(&front(marking)));
+            out.push('\n');
+        }
         out.push_str(&columns(&left(marking)));
         out.push('\n');
     }
@@ -70,6 +74,13 @@ fn heading(marking: &Marking, first: &[&str]) -> Vec<String> {
         .map(|name| name.to_string())
         .chain(names)
         .collect()
+}
+
+/// The front page, with the words of each run.
+fn front(marking: &Marking) -> Vec<Vec<String>> {
+    let mut lines = vec![heading(marking, &["front page"])];
+    lines.extend(marking.front.iter().map(|line| valued(&[""], line)));
+    lines
 }
 
 /// What differs at the end, in four groups.

@@ -1,9 +1,12 @@
 //! The description of an adapter file. It makes the same bytes again, whatever they are: what the named fields do not say stands in
 //! `byte`, `length` and `damage` lines.
 
-use super::fields::{DRIVER, ROW};
-use super::{parse, phy, row_at, BLOCK, CHECK_AT, DRIVER_AT, MOST_PHYS, MOST_ROWS, ROW_BYTES};
-use crate::field::differences;
+use super::fields::{CONNECTOR, CONTROLLER, DRIVER, ROW, STATUS};
+use super::{
+    connector_at, controller_at, front, parse, phy, row_at, status_at, BLOCK, CHECK_AT, DRIVER_AT,
+    MOST_PHYS, MOST_ROWS, ROW_BYTES,
+};
+use crate::field::{differences, Field};
 use crate::value::MOST_BYTES;
 
 /// The most columns of a line; a longer one goes on in the next.
@@ -34,23 +37,32 @@ pub fn describe(file: &[u8]) -> Result<String, String> {
     Ok(text)
 }
 
-/// The lines of the named fields: driver info, the phys and rows that the counts promise and the file has room for.
+/// The lines of the named fields: driver info, controller and status, the phys and rows that the counts promise and the file has room for.
+/// Where the file ends before a block of W-204, that says nothing.
 fn named(file: &[u8]) -> String {
     let mut whole = file.to_vec();
     whole.resize(file.len().next_multiple_of(BLOCK).max(BLOCK), 0);
-    let mut text = String::new();
-    let info = &whole[DRIVER_AT..DRIVER_AT + 174];
-    if info.iter().any(|b| *b != 0) {
-        let mut words = vec!["driver".to_string()];
-        words.extend(differences(info, &[0; 174], &DRIVER));
-        text.push_str(&wrapped(&words));
-    }
     let room = whole.len() / BLOCK - 1;
     let phys = usize::from(whole[0]).min(MOST_PHYS).min(room);
+    let rows = usize::from(whole[1]).min(MOST_ROWS);
+    let driver = Some(&whole[DRIVER_AT..DRIVER_AT + 174]);
+    let controller = whole.get(controller_at(phys, rows)..);
+    let status = whole.get(status_at(phys, rows)..);
+    let mut text = line("driver", driver, &[0; 174], &DRIVER);
+    text.push_str(&line(
+        "controller",
+        controller,
+        &front::controller(),
+        &CONTROLLER,
+    ));
+    text.push_str(&line("status", status, &front::status(), &STATUS));
     for n in 0..phys {
-        text.push_str(&wrapped(&phy::to_words(&whole[BLOCK * (1 + n)..], n)));
+        let mut words = phy::to_words(&whole[BLOCK * (1 + n)..], n);
+        let connector = whole.get(connector_at(phys, rows, n)..);
+        words.extend(said(connector, &front::connector(), &CONNECTOR));
+        text.push_str(&wrapped(&words));
     }
-    for i in 0..usize::from(whole[1]).min(MOST_ROWS) {
+    for i in 0..rows {
         let Some(row) = whole.get(row_at(phys, i)..row_at(phys, i) + ROW_BYTES) else {
             break;
         };
@@ -59,6 +71,22 @@ fn named(file: &[u8]) -> String {
         text.push_str(&wrapped(&words));
     }
     text
+}
+
+/// A line that says in what a structure differs from what it is if nothing is said; none if it does not, or is not there.
+fn line(name: &str, structure: Option<&[u8]>, unsaid: &[u8], table: &[Field]) -> String {
+    let words = said(structure, unsaid, table);
+    match words.is_empty() {
+        true => String::new(),
+        false => wrapped(&[vec![name.to_string()], words].concat()),
+    }
+}
+
+fn said(structure: Option<&[u8]>, unsaid: &[u8], table: &[Field]) -> Vec<String> {
+    let there = structure.filter(|structure| structure.len() >= unsaid.len());
+    there.map_or(Vec::new(), |structure| {
+        differences(structure, unsaid, table)
+    })
 }
 
 fn remade(text: &str) -> Result<Vec<u8>, String> {
@@ -103,9 +131,16 @@ mod tests {
     fn a_description_and_back() {
         let text = "\
 driver name=\"ash\" description=\"A lab adapter\" major=1 csmi-minor=81
+controller base-io=D000h base-memory-low=FE000000h base-memory-high=01h board=30A81000h slot=3 class=0
+    bus=pcmcia pci-bus=1 pci-device=2 pci-function=3 bus-reserved=04*29 serial=\"L4\" major=1 minor=2 build=3
+    release=4 bios-major=5 bios-minor=6 bios-build=7 bios-release=8 flags=sas-hba+fwd-rrom+80000000h
+    rrom-major=9 rrom-minor=10 rrom-build=11 rrom-release=12 rrom-bios-major=13 rrom-bios-minor=14
+    rrom-bios-build=15 rrom-bios-release=16 reserved=11121314151617
+status status=offline offline-reason=backside-bus-failure reserved=18*28
 phy attached=sata signature=ata attached-address=5000C50000000001 invalid-dword=3
 phy attached=edge port=0
-phy
+phy pinout=sff-8470-lane-1+sff-8484-lane-4 connector=\"J1\" location=external
+phy pinout=0 connector=FF*16 location=unknown+40h connector-reserved=19*15
 row address=5000C50000000001 target=1
 row address=5000C50000000002 lun=0001000000000000 host=1 path=2 target=3 os-lun=4
 ";
@@ -114,7 +149,7 @@ row address=5000C50000000002 lun=0001000000000000 host=1 path=2 target=3 os-lun=
 
     #[test]
     fn damaged_files_and_back() {
-        let text = "driver name=\"x\"\nphy attached=sata\nphy\nrow target=1\n";
+        let text = "driver name=\"x\"\ncontroller slot=1\nphy attached=sata location=2\nphy\nrow target=1\n";
         for damage in [
             "byte 0 0 33\n",
             "byte 0 1 65\n",
@@ -124,6 +159,15 @@ row address=5000C50000000002 lun=0001000000000000 host=1 path=2 target=3 os-lun=
             "length 511\n",
             "length 0\n",
             "length 5000\ndamage 7 3 09h\n",
+            "length 2048\n",
+            "length 2100\n",
+            "length 2561\n",
+            "byte 4 0 0\n",
+            "byte 4 212 1\n",
+            "byte 4 507 1\n",
+            "byte 5 2 4\n",
+            "byte 6 36 1\n",
+            "damage 6 20 4\n",
             "damage 0 508 07h\n",
             "damage 3 300 FFh\n",
         ] {

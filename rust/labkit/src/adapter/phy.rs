@@ -137,11 +137,11 @@ const RATES: [&str; 7] = [
     "highest",
 ];
 
-/// A field's value, a link rate with its name.
+/// A field's value, a link rate or another number that has a name with it.
 pub fn phy_value(field: &Field, structure: &[u8]) -> String {
     match RATES.contains(&field.name) {
         true => names::rate_words(field.get(structure)),
-        false => field.show(structure),
+        false => field.words(structure),
     }
 }
 

@@ -1,8 +1,10 @@
 //! What document 01 leaves free and real consoles read all the same: a file that an opening accepts and that makes them behave
-//! oddly. One line for each.
+//! oddly. And a pinout, which an opening refuses by its bits. One line for each.
 
 use super::fields::*;
-use super::{BLOCK, MOST_PHYS};
+use super::{connector_at, controller_at, BLOCK, CONNECTOR_BYTES, MOST_PHYS};
+use crate::named::mask;
+use crate::names::PINOUTS;
 
 /// An end device, as Attached and Identify say it.
 const END_DEVICE: u8 = 0x10;
@@ -13,16 +15,52 @@ const SSP: u8 = 0x08;
 
 /// The warnings about an adapter file; `asked_ata` says whether the console sends ATA commands to an attached SAS address.
 pub fn warnings(file: &[u8], asked_ata: impl Fn(&[u8]) -> bool) -> Vec<String> {
-    let phys = file.first().map_or(0, |count| usize::from(*count));
-    let blocks = file.chunks_exact(BLOCK).skip(1);
+    let count = |at: usize| file.get(at).map_or(0, |count| usize::from(*count));
+    let (phys, rows) = (count(0), count(1));
     let mut found = Vec::new();
+    let serial = controller_at(phys, rows) + SERIAL;
+    if file.get(serial..serial + 81).is_some_and(unended) {
+        found.push(format!("controller: the serial number {UNENDED}"));
+    }
+    let blocks = file.chunks_exact(BLOCK).skip(1);
     for (n, block) in blocks.take(phys.min(MOST_PHYS)).enumerate() {
         let attached = &block[ATTACHED_ADDRESS..ATTACHED_ADDRESS + 8];
-        for line in about(block, asked_ata(attached)).into_iter().flatten() {
+        let at = connector_at(phys, rows, n);
+        let connector = file
+            .get(at..at + CONNECTOR_BYTES)
+            .unwrap_or(&[0; CONNECTOR_BYTES]);
+        let lines = about(block, asked_ata(attached)).into_iter();
+        for line in lines.chain(about_connector(connector)).flatten() {
             found.push(format!("phy {n}: {line}"));
         }
     }
     found
+}
+
+/// What 6.2.3 and 6.18.3 say of their texts.
+const UNENDED: &str = "has no zero byte behind it: consoles that take it for a text read on";
+
+/// Whether a text fills its bytes to the last.
+fn unended(text: &[u8]) -> bool {
+    !text.contains(&0)
+}
+
+fn about_connector(connector: &[u8]) -> [Option<String>; 2] {
+    let name = &connector[CONNECTOR_NAME..LOCATION];
+    [
+        pinout(connector),
+        unended(name).then(|| format!("the connector's name {UNENDED}")),
+    ]
+}
+
+/// Bits that are none of section 10's pinout constants.
+fn pinout(connector: &[u8]) -> Option<String> {
+    let field = CONNECTOR[0];
+    let (pinout, known) = (field.get(connector), mask(PINOUTS));
+    let other = pinout & !known;
+    (other != 0).then(|| {
+        format!("pinout {pinout:08X}h has bits that no pinout has ({other:08X}h, outside {known:08X}h): the opening refuses it with 104")
+    })
 }
 
 fn about(block: &[u8], asked_ata: bool) -> [Option<String>; 3] {
@@ -86,6 +124,36 @@ mod tests {
         }
     }
 
+    /// Each of the 32 bits of a pinout, on any phy.
+    #[test]
+    fn pinouts_that_an_opening_refuses() {
+        for bit in 0..32 {
+            let pinout = 1u32 << bit;
+            let found = warned(&format!("phy\nphy pinout={pinout:X}h\nrow"));
+            let known = pinout & 0x000F_0F03 != 0;
+            assert_eq!(found.len(), usize::from(!known), "{pinout:X}h");
+        }
+        assert_eq!(
+            warned("phy pinout=sff-8482+80000000h"),
+            ["phy 0: pinout 80000002h has bits that no pinout has (80000000h, outside 000F0F03h): the opening refuses it with 104"]
+        );
+        assert_eq!(warned("phy pinout=000F0F03h\nphy pinout=0"), [""; 0]);
+    }
+
+    #[test]
+    fn texts_that_do_not_end() {
+        let found = warned("controller serial=41*81\nphy\nphy connector=\"sixteen letters.\"");
+        assert_eq!(
+            found,
+            [
+                format!("controller: the serial number {UNENDED}"),
+                format!("phy 1: the connector's name {UNENDED}")
+            ]
+        );
+        let text = "controller serial=41*80+00\nphy connector=\"fifteen letters\"";
+        assert_eq!(warned(text), [""; 0]);
+    }
+
     #[test]
     fn a_device_that_is_asked_ata_looks_like_a_disk() {
         let file = parse("phy attached=sas attached-address=5000C50000000003").unwrap();
@@ -96,8 +164,13 @@ mod tests {
 
     #[test]
     fn any_bytes() {
-        for length in [0, 1, 511, 512, 1023, 1024, 5000] {
+        for length in [0, 1, 511, 512, 1023, 1024, 5000, 200_000] {
             warnings(&vec![0xFF; length], |_| true);
+        }
+        // a count over what a file may have, and every length of a sound one
+        let file = parse("phy\nphy\nrow").unwrap();
+        for end in 0..file.len() {
+            assert_eq!(warnings(&file[..end], |_| false), [""; 0]);
         }
     }
 }

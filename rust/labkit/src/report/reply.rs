@@ -1,10 +1,14 @@
 //! A reply in words: the return code, the fields of its structure, and which of them the reply changed.
 
-use crate::adapter::entity_words;
+use crate::adapter::{connector_words, entity_words, CONNECTOR_BYTES};
 use crate::field::Field;
 use crate::names;
 use crate::session::{layout, Header, STP_PASSTHRU};
 use crate::value::{show_bytes, show_code};
+
+/// How many phys a code 20 and a code 30 have room for, and the bytes of a PHY_ENTITY.
+const PHYS: usize = 32;
+const ENTITY: usize = 64;
 
 /// The reply to a request of that header in words, or why the two do not fit.
 pub fn reply(header: Header, request: &[u8], reply: &[u8]) -> Result<String, String> {
@@ -50,27 +54,55 @@ fn title(header: Header, control: u32) -> String {
     }
 }
 
-/// The line of one field, and of the entities of code 20 a line for each phy.
+/// The line of one field; of the entities of code 20 and the references of code 30 a line for each phy.
 fn shown(field: &Field, sent: &[u8], got: &[u8], success: bool) -> String {
-    let part = field.at..field.at + field.size;
-    let changed = sent[part.clone()] != got[part.clone()];
-    if field.name != "entities" {
-        let value = match success {
-            true => meaning(field, got),
-            false => field.show(got),
-        };
-        return row(field.name, &value, changed);
+    let [before, part] = [sent, got].map(|body| &body[field.at..field.at + field.size]);
+    match field.name {
+        "entities" => phys(before, part, ENTITY, got[0].into(), entity_words),
+        "references" if success => {
+            let count = filled(part);
+            let behind = count * CONNECTOR_BYTES;
+            let rest = match count {
+                PHYS => String::new(),
+                _ => row(
+                    &others(count),
+                    "00*36 each",
+                    before[behind..] != part[behind..],
+                ),
+            };
+            phys(before, part, CONNECTOR_BYTES, count, connector_words) + &rest
+        }
+        _ if success => row(field.name, &meaning(field, got), before != part),
+        _ => row(field.name, &field.show(got), before != part),
     }
-    let phys = usize::from(got[0]).min(32);
-    let entities = got[part].chunks(64).take(phys).enumerate();
-    entities
-        .map(|(n, entity)| row(&format!("phy {n}"), &entity_words(entity), changed))
-        .collect()
 }
 
-/// A field's value, with words for the connection and the status FIS of a code 25.
+/// A line for each of the first phys in a list of structures of that size.
+fn phys(sent: &[u8], got: &[u8], size: usize, count: usize, words: fn(&[u8]) -> String) -> String {
+    let each = sent.chunks(size).zip(got.chunks(size)).take(count);
+    let line = |(n, (before, phy)): (usize, (&[u8], &[u8]))| {
+        row(&format!("phy {n}"), &words(phy), before != phy)
+    };
+    each.enumerate().map(line).collect()
+}
+
+/// How many references there are up to the last that is not zero. A reply of code 30 does not count the phys.
+fn filled(references: &[u8]) -> usize {
+    let last = references.iter().rposition(|b| *b != 0);
+    last.map_or(0, |at| at / CONNECTOR_BYTES + 1)
+}
+
+/// The references from a number on.
+fn others(first: usize) -> String {
+    match first {
+        31 => "phy 31".to_string(),
+        first => format!("phys {first} to 31"),
+    }
+}
+
+/// A field's value, with words for the connection and the status FIS of a code 25, and for numbers that have names.
 fn meaning(field: &Field, got: &[u8]) -> String {
-    let shown = field.show(got);
+    let shown = field.words(got);
     let part = &got[field.at..];
     let words = match (field.name, part) {
         ("connection", [0, ..]) => Some("open accept"),
@@ -89,109 +121,4 @@ fn row(name: &str, value: &str, changed: bool) -> String {
 }
 
 #[cfg(test)]
-mod tests {
-    use super::*;
-    use crate::session::{parse, Form};
-
-    fn request(line: &str) -> Vec<u8> {
-        parse(line).unwrap()[4..].to_vec()
-    }
-
-    fn reply(request: &[u8], reply: &[u8]) -> Result<String, String> {
-        super::reply(Header::Srb, request, reply)
-    }
-
-    /// What a Linux request that one line describes gets, if the other describes the reply.
-    fn linux(sent: &str, got: &str) -> String {
-        let [sent, got] = [sent, got].map(|line| Form::Both.parse(line).unwrap());
-        let [sent, got] = [&sent, &got].map(|session| Form::Both.split(session).requests[0]);
-        super::reply(sent.header, sent.buffer, got.buffer).unwrap()
-    }
-
-    #[test]
-    fn counters_in_words() {
-        let sent = request("get-link-errors phy=1");
-        let got = request("get-link-errors phy=1 loss-of-sync=7");
-        assert_eq!(
-            reply(&sent, &got).unwrap(),
-            "get-link-errors (22): 0 success
-* marks what the reply changed
-  phy                1
-  reset              0
-  reserved           0000
-  invalid-dword      0
-  running-disparity  0
-* loss-of-sync       7
-  reset-problem      0
-"
-        );
-    }
-
-    #[test]
-    fn a_status_fis_and_data_in_words() {
-        let sent = request("stp-passthru command=20h data=00*12");
-        let got =
-            request("stp-passthru command=20h data=5A*12 data-bytes=12 status-fis=34005000+00*16");
-        let text = reply(&sent, &got).unwrap();
-        assert!(text.contains("* status-fis         340050+00*17 (success)\n"));
-        assert!(text.contains("* data               5A*12\n"));
-        let got = request("stp-passthru command=20h data=00*12 status-fis=34005110+00*16");
-        let text = reply(&sent, &got).unwrap();
-        assert!(text.contains("(error, past the last sector)"));
-        assert!(text.contains("  data               00*12\n"));
-    }
-
-    #[test]
-    fn phys_in_words() {
-        let sent = request("get-phy-info");
-        let got = request("get-phy-info phys=2");
-        let text = reply(&sent, &got).unwrap();
-        assert!(text.contains("* phys               2\n"));
-        assert_eq!(
-            text.lines()
-                .filter(|line| line.contains("no device"))
-                .count(),
-            2
-        );
-    }
-
-    #[test]
-    fn linux_replies_in_words() {
-        let text = linux(
-            "linux get-link-errors phy=1",
-            "linux get-link-errors phy=1 return-code=2002 loss-of-sync=7",
-        );
-        assert!(text.starts_with("linux get-link-errors (22): 2002 phy does not exist\n"));
-        assert!(text.contains("* loss-of-sync       7\n"));
-        assert!(text.contains("  phy                1\n"));
-        let text = linux(
-            "linux stp-passthru command=20h data=00*12",
-            "linux stp-passthru command=20h data=5A*12",
-        );
-        assert!(text.contains("* data               5A*12\n"));
-        assert_eq!(
-            linux(
-                "linux request control=CC770014h",
-                "linux request control=CC770014h return-code=2"
-            ),
-            "linux unknown control code (CC770014h): 2 bad control code\nthe body is as sent\n"
-        );
-        let short = "linux raw control=22 00*19";
-        assert_eq!(linux(short, short), "no header, so no return code\n");
-    }
-
-    #[test]
-    fn refusals_in_words() {
-        let sent = request("get-cntlr-config");
-        let got = request("get-cntlr-config return-code=2");
-        assert_eq!(
-            reply(&sent, &got).unwrap(),
-            "get-cntlr-config (2): 2 bad control code\nthe body is as sent\n"
-        );
-        assert_eq!(reply(&[1], &[1]).unwrap(), "no header, so no return code\n");
-        assert_eq!(
-            reply(&[1], &[1, 2]).unwrap_err(),
-            "the request has 1 bytes, the reply 2"
-        );
-    }
-}
+mod tests;

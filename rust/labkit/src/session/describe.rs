@@ -141,8 +141,11 @@ stp-passthru phy=FFh port=00h command=ECh device=0 data-length=512
 get-sata-signature phy=3 buffer=30
 get-scsi-address address=5000C50000000001 lun=0100000000000000
 get-device-address host=1 target=3
+get-cntlr-config slot=unknown class=hba bus=pci serial=\"L4\" flags=sas-hba+fwd-rrom reserved=01020304050607
+get-cntlr-status status=offline offline-reason=255 reserved=FF*28
+get-connector-info references=01*1152
 phy-control
-get-cntlr-status body=FF+00*35
+firmware-download body=FF+00*43
 request control=99
 request control=99 body=00*9
 request signature=\"CSMIALL\" control=99 length=7 body=0102
@@ -158,7 +161,10 @@ linux get-link-errors direction=2 ignored=0102 phy=1 reset=1
 linux stp-passthru phy=01h destination=5000C50000000001 command=30h lba=15 count=1 data=5A*512
 linux stp-passthru direction=1 phy=01h command=20h count=1 data=00*512
 linux get-sata-signature phy=3 buffer=22
-linux get-cntlr-status body=FF+00*35
+linux get-cntlr-config return-code=1 bus=eisa
+linux get-cntlr-status status=good
+linux get-connector-info references=00*1151+FF
+linux firmware-download body=FF+00*43
 linux request
 linux request control=99
 linux request control=CC770014h body=00*2052
@@ -178,6 +184,9 @@ linux raw
     fn every_byte_of_a_request_comes_back() {
         let names = [
             "get-driver-info",
+            "get-cntlr-config",
+            "get-cntlr-status",
+            "get-connector-info",
             "get-phy-info",
             "set-phy-info",
             "get-link-errors",
@@ -187,10 +196,10 @@ linux raw
             "stp-passthru data=00*3",
             "get-raid-info",
         ];
-        let first = names.map(|name| format!("{name}\n")).concat();
-        let linux = names.map(|name| format!("linux {name}\n")).concat();
-        every_byte_comes_back(Form::Program, &first);
-        every_byte_comes_back(Form::Both, &format!("set-phy-info\n{linux}"));
+        for name in names {
+            every_byte_comes_back(Form::Program, &format!("{name}\nset-phy-info\n"));
+            every_byte_comes_back(Form::Both, &format!("set-phy-info\nlinux {name}\n"));
+        }
     }
 
     #[test]

@@ -147,6 +147,25 @@ mod tests {
         }
     }
 
+    /// Signature and Length of the codes that a front page asks for; Linux's Length counts its header.
+    #[test]
+    fn sound_headers_of_a_front_page() {
+        for (control, signature, size) in [
+            (2, b"CSMIALL\0", 176),
+            (3, b"CSMIALL\0", 36),
+            (30, b"CSMISAS\0", 1152),
+        ] {
+            let body = vec![0; layout(control).size];
+            let first = Header::Srb.sound(control, &body);
+            assert_eq!(first[4..12], *signature);
+            assert_eq!(SRB_CONTROL.get(&first), control);
+            assert_eq!(SRB_LENGTH.get(&first), size);
+            let linux = Header::Linux { control }.sound(control, &body);
+            assert_eq!(LINUX_LENGTH.get(&linux), 20 + size);
+            assert_eq!(DIRECTION.get(&linux), u32::from(DATA_READ));
+        }
+    }
+
     #[test]
     fn a_sound_linux_header() {
         let linux = Header::Linux { control: 22 };

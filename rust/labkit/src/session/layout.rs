@@ -1,7 +1,7 @@
 //! Where the fields of a request stand: for each control code the signature, the size and the named fields of its structure, offsets
 //! from the end of the header.
 
-use crate::adapter::{DRIVER, ROW};
+use crate::adapter::{CONTROLLER, DRIVER, ROW, STATUS};
 use crate::field::{byte, bytes, code, field, number, Field, Kind};
 
 /// The structure of one control code.
@@ -14,6 +14,10 @@ pub struct Layout {
 }
 
 pub const DRIVER_INFO: u32 = 1;
+/// The control codes that a console's front page shows.
+pub const CNTLR_CONFIG: u32 = 2;
+pub const CNTLR_STATUS: u32 = 3;
+pub const CONNECTOR_INFO: u32 = 30;
 /// The control code that changes a phy.
 pub const SET_PHY_INFO: u32 = 21;
 /// The control code whose structure ends with a data buffer, where the command stands in it, and uDataLength.
@@ -25,8 +29,8 @@ pub const DATA_LENGTH: Field = number("data-length", 40, 4);
 pub fn layout(control: u32) -> Layout {
     let (signature, size, fields): (_, _, &'static [Field]) = match control {
         DRIVER_INFO => ("CSMIALL", 174, &DRIVER),
-        2 => ("CSMIALL", 176, &[]),
-        3 => ("CSMIALL", 36, &[]),
+        CNTLR_CONFIG => ("CSMIALL", 176, &CONTROLLER),
+        CNTLR_STATUS => ("CSMIALL", 36, &STATUS),
         4 => ("CSMIALL", 44, &[]),
         10 | 11 => ("CSMIARY", 0, &[]),
         20 => ("CSMISAS", 2052, &PHY_INFO),
@@ -37,7 +41,7 @@ pub fn layout(control: u32) -> Layout {
         26 => ("CSMISAS", 24, &SATA_SIGNATURE),
         27 => ("CSMISAS", 20, &ROW),
         28 => ("CSMISAS", 20, &DEVICE_ADDRESS),
-        30 => ("CSMISAS", 1152, &[]),
+        CONNECTOR_INFO => ("CSMISAS", 1152, &CONNECTORS),
         60 => ("CSMIPHY", 56, &[]),
         _ => ("CSMISAS", 0, &[]),
     };
@@ -106,6 +110,9 @@ const SATA_SIGNATURE: [Field; 3] = [
     bytes("reserved", 1, 3),
     bytes("signature-fis", 4, 20),
 ];
+
+/// A connector for each of 32 phys.
+const CONNECTORS: [Field; 1] = [bytes("references", 0, 1152)];
 
 const DEVICE_ADDRESS: [Field; 6] = [
     byte("host", 0),

@@ -11,7 +11,9 @@ mod request;
 pub use describe::describe_request;
 pub use form::{Form, MOST_REQUEST};
 pub use header::{srb, Header, DIRECTION};
-pub use layout::{layout, Layout, DRIVER_INFO, STP_PASSTHRU};
+pub use layout::{
+    layout, Layout, CNTLR_CONFIG, CNTLR_STATUS, CONNECTOR_INFO, DRIVER_INFO, STP_PASSTHRU,
+};
 
 use crate::Fault;
 
