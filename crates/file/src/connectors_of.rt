@@ -63,10 +63,5 @@ pub fn fill_connectors(tables: &mut [u8], file: &[u8], p: usize, a: usize)
     requires { ⌜ length (now tables) ≡ tablesSize ⌝ }
     ensures { λ _. ⌜ now (tables .exit) ≡ splice (now (tables .entry)) connectorsStart (connectorsFrom (now (file .entry)) p a) ⌝ }
 {
-    put_connectors(
-        &mut tables[tables::CONNECTORS..tables::SIZE],
-        file,
-        p,
-        a,
-    );
+    put_connectors(&mut tables[tables::CONNECTORS..tables::SIZE], file, p, a);
 }
