@@ -1,6 +1,6 @@
 /* Sessions with requests under both headers, ascheknopf_run_both: lines and replies, the same as by calls one by one, and the same as by
-   ascheknopf_run where all have the first header. What is expected was written down from W-201, W-202, W-204, document 01, the header file and
-   the descriptions of the samples. Runs in the repository's root. */
+   ascheknopf_run where all have the first header. What is expected was written down from W-201, W-202, W-204, document 01, the header file
+   and the descriptions of the samples. Runs in the repository's root. */
 #define PROGRAM "both.c"
 #include "both.h"
 
