@@ -86,7 +86,14 @@ fn a_wrong_text_is_101_and_leaves_the_zero_state() {
 
 #[test]
 fn a_state_of_another_length_is_107_and_stays() {
-    for length in [0, 1, CONTROLLER, STATE_SIZE - 1, STATE_SIZE + 1, 2 * STATE_SIZE] {
+    for length in [
+        0,
+        1,
+        CONTROLLER,
+        STATE_SIZE - 1,
+        STATE_SIZE + 1,
+        2 * STATE_SIZE,
+    ] {
         let mut held = vec![OTHER; length];
         let (mut medium, mut buffer) = ([0; DISK], [OTHER; 40]);
         assert_eq!(open(b"", &file(), &medium, &mut held), 107);

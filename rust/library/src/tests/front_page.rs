@@ -109,9 +109,8 @@ fn the_places_are_those_of_the_c_header() {
         let line = format!("#define ASCHEKNOPF_{name} {number}");
         assert!(defines(&line), "{line}");
     }
-    let line = format!(
-        "#define ASCHEKNOPF_CONNECTOR(n) ({CONNECTOR} + {CONNECTOR_SIZE} * (size_t)(n))"
-    );
+    let line =
+        format!("#define ASCHEKNOPF_CONNECTOR(n) ({CONNECTOR} + {CONNECTOR_SIZE} * (size_t)(n))");
     assert!(defines(&line), "{line}");
     assert_eq!(at::CONTROLLER_CONFIG, CONTROLLER);
     assert_eq!(at::CONTROLLER_STATUS, STATUS);
