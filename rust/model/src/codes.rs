@@ -3,6 +3,8 @@
 /// Control codes.
 pub mod control {
     pub const DRIVER_INFO: u32 = 1;
+    pub const CNTLR_CONFIG: u32 = 2;
+    pub const CNTLR_STATUS: u32 = 3;
     pub const PHY_INFO: u32 = 20;
     pub const SET_PHY_INFO: u32 = 21;
     pub const LINK_ERRORS: u32 = 22;
@@ -10,6 +12,7 @@ pub mod control {
     pub const SATA_SIGNATURE: u32 = 26;
     pub const SCSI_ADDRESS: u32 = 27;
     pub const DEVICE_ADDRESS: u32 = 28;
+    pub const CONNECTOR_INFO: u32 = 30;
 }
 
 /// The call's own number.
@@ -73,6 +76,24 @@ pub mod rate {
     pub const FAILED: u8 = 2;
     pub const G_1_5: u8 = 8;
     pub const G_3_0: u8 = 9;
+}
+
+/// The pinout bits of a connector.
+pub mod pinout {
+    pub const UNKNOWN: u32 = 0x0000_0001;
+    pub const SFF_8482: u32 = 0x0000_0002;
+    pub const SFF_8470_LANE_1: u32 = 0x0000_0100;
+    pub const SFF_8470_LANE_2: u32 = 0x0000_0200;
+    pub const SFF_8470_LANE_3: u32 = 0x0000_0400;
+    pub const SFF_8470_LANE_4: u32 = 0x0000_0800;
+    pub const SFF_8484_LANE_1: u32 = 0x0001_0000;
+    pub const SFF_8484_LANE_2: u32 = 0x0002_0000;
+    pub const SFF_8484_LANE_3: u32 = 0x0004_0000;
+    pub const SFF_8484_LANE_4: u32 = 0x0008_0000;
+
+    const SFF_8470: u32 = SFF_8470_LANE_1 | SFF_8470_LANE_2 | SFF_8470_LANE_3 | SFF_8470_LANE_4;
+    const SFF_8484: u32 = SFF_8484_LANE_1 | SFF_8484_LANE_2 | SFF_8484_LANE_3 | SFF_8484_LANE_4;
+    pub const ALL: u32 = UNKNOWN | SFF_8482 | SFF_8470 | SFF_8484;
 }
 
 /// A phy or port identifier of code 25 that is not given.

@@ -1,11 +1,11 @@
 //! The rules of counts, fields and rows: an opening holds the file to them, a request its state.
 
 use crate::bytes::all_zero;
-use crate::codes::{device, rate};
+use crate::codes::{device, pinout, rate};
 use crate::layout::{entity, MAX_PHYS, MAX_ROWS};
 use crate::level::Level;
 use crate::link;
-use crate::state::{Phy, Row, State};
+use crate::state::{Connector, Phy, Row, State};
 
 pub const MAX_CLASS: u8 = 3;
 
@@ -14,13 +14,14 @@ pub fn counts_are_sound(p: u8, a: u8) -> bool {
     (1..=MAX_PHYS).contains(&usize::from(p)) && usize::from(a) <= MAX_ROWS
 }
 
-/// The field rules, for every phy below p.
-pub fn phys_are_sound(state: &State) -> bool {
+/// The field rules, for every phy below p and its connector.
+pub fn fields_are_sound(state: &State) -> bool {
     state
         .live_phys()
         .iter()
         .zip(0..)
         .all(|(phy, n)| phy_is_sound(phy, n, state.p))
+        && state.live_connectors().iter().all(connector_is_sound)
 }
 
 /// The field rules of phy n.
@@ -67,6 +68,11 @@ fn signature_is_sound(phy: &Phy) -> bool {
     }
 }
 
+/// "free but for pinout bits outside section 10's pinout constants" (W-204).
+fn connector_is_sound(connector: &Connector) -> bool {
+    connector.pinout() & !pinout::ALL == 0
+}
+
 /// "No two rows share SAS address and LUN; no two share all four OS bytes."
 pub fn rows_are_distinct(rows: &[Row]) -> bool {
     rows.iter().enumerate().all(|(i, row)| {
@@ -82,7 +88,7 @@ pub fn rows_are_distinct(rows: &[Row]) -> bool {
 pub fn state_is_sound(state: &State) -> bool {
     counts_are_sound(state.p, state.a)
         && state.level <= Level::Full as u8
-        && phys_are_sound(state)
+        && fields_are_sound(state)
         && rows_are_distinct(state.live_rows())
         && is_zero_past_counts(state)
 }
@@ -94,4 +100,7 @@ fn is_zero_past_counts(state: &State) -> bool {
         && state.rows[state.live_rows().len()..]
             .iter()
             .all(|row| *row == Row::ZERO)
+        && state.connectors[state.live_connectors().len()..]
+            .iter()
+            .all(|connector| *connector == Connector::ZERO)
 }

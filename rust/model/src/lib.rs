@@ -27,4 +27,4 @@ mod tests;
 
 pub use file::{block_check, open};
 pub use request::{answer, answer_linux, denied, request, request_linux, tested};
-pub use state::{Phy, Row, State};
+pub use state::{Connector, Phy, Row, State};

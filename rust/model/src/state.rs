@@ -1,8 +1,11 @@
 //! What an adapter remembers between calls.
 
-use crate::bytes::array_at;
+use crate::bytes::{array_at, u32_at};
 use crate::codes::device;
-use crate::layout::{entity, fis, DRIVER_INFO, ENTITY, MAX_PHYS, MAX_ROWS};
+use crate::layout::{
+    connector, entity, fis, CONTROLLER_CONFIG, CONTROLLER_STATUS, DRIVER_INFO, ENTITY, MAX_PHYS,
+    MAX_ROWS,
+};
 use crate::rates::Rates;
 
 /// Index of the phy reset problem counter in the order of 6.9: invalid dword, running disparity,
@@ -17,6 +20,10 @@ pub struct State {
     pub driver_info: [u8; DRIVER_INFO],
     pub phys: [Phy; MAX_PHYS],
     pub rows: [Row; MAX_ROWS],
+    pub controller_config: [u8; CONTROLLER_CONFIG],
+    pub controller_status: [u8; CONTROLLER_STATUS],
+    /// One for each phy.
+    pub connectors: [Connector; MAX_PHYS],
 }
 
 #[derive(Clone, PartialEq, Eq, Debug)]
@@ -42,6 +49,10 @@ pub struct Row {
     pub os: [u8; 4],
 }
 
+/// A phy's connector as the file holds it.
+#[derive(Clone, Copy, PartialEq, Eq, Debug)]
+pub struct Connector(pub [u8; connector::SIZE]);
+
 impl State {
     /// "A refused opening returns the zero state, p = 0, level 0."
     pub const ZERO: State = State {
@@ -51,6 +62,9 @@ impl State {
         driver_info: [0; DRIVER_INFO],
         phys: [const { Phy::ZERO }; MAX_PHYS],
         rows: [Row::ZERO; MAX_ROWS],
+        controller_config: [0; CONTROLLER_CONFIG],
+        controller_status: [0; CONTROLLER_STATUS],
+        connectors: [Connector::ZERO; MAX_PHYS],
     };
 
     /// The phys below p; of a state with p over 32, all.
@@ -60,6 +74,11 @@ impl State {
 
     pub fn live_phys_mut(&mut self) -> &mut [Phy] {
         &mut self.phys[..usize::from(self.p).min(MAX_PHYS)]
+    }
+
+    /// The connectors of the phys below p; of a state with p over 32, all.
+    pub fn live_connectors(&self) -> &[Connector] {
+        &self.connectors[..usize::from(self.p).min(MAX_PHYS)]
     }
 
     /// The rows below a; of a state with a over 64, all.
@@ -141,4 +160,12 @@ impl Row {
         sas_lun: [0; 8],
         os: [0; 4],
     };
+}
+
+impl Connector {
+    pub const ZERO: Connector = Connector([0; connector::SIZE]);
+
+    pub fn pinout(&self) -> u32 {
+        u32_at(&self.0, connector::PINOUT)
+    }
 }

@@ -2,9 +2,12 @@
 //! string of this length stands for a state, and each state for one byte string.
 
 use crate::bytes::{array_at, u32_at};
-use crate::layout::state::{DRIVER_INFO, LEVEL, PHYS, PHY_COUNT, ROWS, ROW_COUNT, SIZE};
+use crate::layout::state::{
+    CONNECTORS, CONTROLLER_CONFIG, CONTROLLER_STATUS, DRIVER_INFO, LEVEL, PHYS, PHY_COUNT, ROWS,
+    ROW_COUNT, SIZE,
+};
 use crate::layout::{phy, row};
-use crate::state::{Phy, Row, State};
+use crate::state::{Connector, Phy, Row, State};
 
 impl State {
     pub fn from_bytes(bytes: &[u8; SIZE]) -> State {
@@ -17,9 +20,15 @@ impl State {
         for (phy, bytes) in state.phys.iter_mut().zip(phys) {
             *phy = Phy::from_bytes(bytes);
         }
-        let rows = bytes[ROWS..].as_chunks().0;
+        let rows = bytes[ROWS..CONTROLLER_CONFIG].as_chunks().0;
         for (row, bytes) in state.rows.iter_mut().zip(rows) {
             *row = Row::from_bytes(bytes);
+        }
+        state.controller_config = array_at(bytes, CONTROLLER_CONFIG);
+        state.controller_status = array_at(bytes, CONTROLLER_STATUS);
+        let connectors = bytes[CONNECTORS..].as_chunks().0;
+        for (connector, bytes) in state.connectors.iter_mut().zip(connectors) {
+            *connector = Connector(*bytes);
         }
         state
     }
@@ -34,9 +43,15 @@ impl State {
         for (bytes, phy) in phys.iter_mut().zip(&self.phys) {
             *bytes = phy.to_bytes();
         }
-        let rows = bytes[ROWS..].as_chunks_mut().0;
+        let rows = bytes[ROWS..CONTROLLER_CONFIG].as_chunks_mut().0;
         for (bytes, row) in rows.iter_mut().zip(&self.rows) {
             *bytes = row.to_bytes();
+        }
+        bytes[CONTROLLER_CONFIG..CONTROLLER_STATUS].copy_from_slice(&self.controller_config);
+        bytes[CONTROLLER_STATUS..CONNECTORS].copy_from_slice(&self.controller_status);
+        let connectors = bytes[CONNECTORS..].as_chunks_mut().0;
+        for (bytes, connector) in connectors.iter_mut().zip(&self.connectors) {
+            *bytes = connector.0;
         }
         bytes
     }

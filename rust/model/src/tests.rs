@@ -1,11 +1,12 @@
 //! The starred cases and the worked example of document 01, every number and every return code,
-//! the Linux header, the need of code 22, the ranges of the commands' needs, the state as bytes, and
-//! a walk over arbitrary inputs. What is expected stands here in the document's own numbers, which
-//! holds `codes` and `layout` to it.
+//! the Linux header, the need of code 22, the ranges of the commands' needs, the controller and the
+//! connectors, the state as bytes, and a walk over arbitrary inputs. What is expected stands here in
+//! the document's own numbers, which holds `codes` and `layout` to it.
 
 mod adapter;
 mod arbitrary;
 mod codes;
+mod controller;
 mod disk;
 mod header;
 mod layout;

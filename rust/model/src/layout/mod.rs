@@ -32,7 +32,8 @@ pub mod row {
     pub const SIZE: usize = 20;
 }
 
-/// The adapter file: a block's check, block 0, and the rows of a block.
+/// The adapter file: a block's check, block 0, the rows of a block, and the controller's block. A
+/// phy and a connector start their blocks.
 pub mod file {
     pub const BLOCK: usize = 512;
     pub const CHECK: usize = 508;
@@ -42,6 +43,9 @@ pub mod file {
     pub const DRIVER_INFO_END: usize = DRIVER_INFO + super::DRIVER_INFO;
     pub const ROWS_PER_BLOCK: usize = 25;
     pub const ROWS_END: usize = ROWS_PER_BLOCK * super::row::SIZE;
+    pub const CONTROLLER_CONFIG: usize = 0;
+    pub const CONTROLLER_STATUS: usize = CONTROLLER_CONFIG + super::CONTROLLER_CONFIG;
+    pub const CONTROLLER_END: usize = CONTROLLER_STATUS + super::CONTROLLER_STATUS;
 
     /// Where the block of phy n starts.
     pub const fn phy_at(n: usize) -> usize {
@@ -57,7 +61,10 @@ pub mod state {
     pub const DRIVER_INFO: usize = 3;
     pub const PHYS: usize = DRIVER_INFO + super::DRIVER_INFO;
     pub const ROWS: usize = phy_at(super::MAX_PHYS);
-    pub const SIZE: usize = row_at(super::MAX_ROWS);
+    pub const CONTROLLER_CONFIG: usize = row_at(super::MAX_ROWS);
+    pub const CONTROLLER_STATUS: usize = CONTROLLER_CONFIG + super::CONTROLLER_CONFIG;
+    pub const CONNECTORS: usize = CONTROLLER_STATUS + super::CONTROLLER_STATUS;
+    pub const SIZE: usize = connector_at(super::MAX_PHYS);
 
     /// Where phy n starts.
     pub const fn phy_at(n: usize) -> usize {
@@ -67,5 +74,10 @@ pub mod state {
     /// Where row i starts.
     pub const fn row_at(i: usize) -> usize {
         ROWS + i * super::row::SIZE
+    }
+
+    /// Where the connector of phy n starts.
+    pub const fn connector_at(n: usize) -> usize {
+        CONNECTORS + n * super::connector::SIZE
     }
 }

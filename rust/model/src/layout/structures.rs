@@ -6,6 +6,10 @@ pub const MAX_PHYS: usize = 32;
 pub const ENTITY: usize = 64;
 /// The driver info (6.1.4.1): the structure of code 1.
 pub const DRIVER_INFO: usize = 174;
+/// The controller's configuration (6.2.4.3): the structure of code 2.
+pub const CONTROLLER_CONFIG: usize = 176;
+/// The controller's status (6.3.4.1): the structure of code 3.
+pub const CONTROLLER_STATUS: usize = 36;
 
 /// SRB_IO_CONTROL (4.1.3.1).
 pub mod header {
@@ -91,6 +95,11 @@ pub mod device_address {
     pub const SIZE: usize = 20;
 }
 
+/// Code 30: a connector for each phy.
+pub mod connector_info {
+    pub const SIZE: usize = super::MAX_PHYS * super::connector::SIZE;
+}
+
 /// A command or status FIS.
 pub mod fis {
     pub const TYPE: usize = 0;
@@ -103,6 +112,12 @@ pub mod fis {
     pub const DEVICE: usize = 7;
     pub const COUNT: usize = 12;
     pub const SIZE: usize = 20;
+}
+
+/// The connector of a phy (6.18.4.1), a Reference of code 30.
+pub mod connector {
+    pub const PINOUT: usize = 0;
+    pub const SIZE: usize = 36;
 }
 
 /// A PHY_ENTITY (6.7.4.2).

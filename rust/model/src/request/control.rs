@@ -3,14 +3,16 @@
 use crate::codes::control;
 use crate::codes::link_error::RESET_COUNTS;
 use crate::layout::{
-    device_address, fis, link_errors, phy_info, sata_signature, scsi_address, set_phy_info, stp,
-    DRIVER_INFO,
+    connector_info, device_address, fis, link_errors, phy_info, sata_signature, scsi_address,
+    set_phy_info, stp, CONTROLLER_CONFIG, CONTROLLER_STATUS, DRIVER_INFO,
 };
 use crate::level::Level;
 
 #[derive(Clone, Copy, PartialEq, Eq)]
 pub enum Control {
     DriverInfo,
+    ControllerConfig,
+    ControllerStatus,
     GetPhyInfo,
     SetPhyInfo,
     LinkErrors,
@@ -18,6 +20,7 @@ pub enum Control {
     SataSignature,
     ScsiAddress,
     DeviceAddress,
+    ConnectorInfo,
 }
 
 impl Control {
@@ -25,6 +28,8 @@ impl Control {
     pub fn of_code(code: u32) -> Option<Control> {
         Some(match code {
             control::DRIVER_INFO => Control::DriverInfo,
+            control::CNTLR_CONFIG => Control::ControllerConfig,
+            control::CNTLR_STATUS => Control::ControllerStatus,
             control::PHY_INFO => Control::GetPhyInfo,
             control::SET_PHY_INFO => Control::SetPhyInfo,
             control::LINK_ERRORS => Control::LinkErrors,
@@ -32,14 +37,18 @@ impl Control {
             control::SATA_SIGNATURE => Control::SataSignature,
             control::SCSI_ADDRESS => Control::ScsiAddress,
             control::DEVICE_ADDRESS => Control::DeviceAddress,
+            control::CONNECTOR_INFO => Control::ConnectorInfo,
             _ => return None,
         })
     }
 
-    /// "CSMIALL for code 1, CSMISAS for the rest, then a zero byte".
+    /// "CSMIALL for code 1, CSMISAS for the rest, then a zero byte"; "CSMIALL for 2 and 3, CSMISAS
+    /// for 30" (W-204).
     pub fn signature(self) -> &'static [u8; 8] {
         match self {
-            Control::DriverInfo => b"CSMIALL\0",
+            Control::DriverInfo | Control::ControllerConfig | Control::ControllerStatus => {
+                b"CSMIALL\0"
+            }
             _ => b"CSMISAS\0",
         }
     }
@@ -48,6 +57,8 @@ impl Control {
     pub fn size(self) -> usize {
         match self {
             Control::DriverInfo => DRIVER_INFO,
+            Control::ControllerConfig => CONTROLLER_CONFIG,
+            Control::ControllerStatus => CONTROLLER_STATUS,
             Control::GetPhyInfo => phy_info::SIZE,
             Control::SetPhyInfo => set_phy_info::SIZE,
             Control::LinkErrors => link_errors::SIZE,
@@ -55,6 +66,7 @@ impl Control {
             Control::SataSignature => sata_signature::SIZE,
             Control::ScsiAddress => scsi_address::SIZE,
             Control::DeviceAddress => device_address::SIZE,
+            Control::ConnectorInfo => connector_info::SIZE,
         }
     }
 

@@ -1,4 +1,4 @@
-//! One request, with either header: the order of its checks, and the eight control codes.
+//! One request, with either header: the order of its checks, and the control codes.
 
 mod addresses;
 mod control;

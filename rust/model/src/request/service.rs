@@ -16,6 +16,8 @@ pub fn serve(
 ) -> Result<u32, u32> {
     match control {
         Control::DriverInfo => reports::driver_info(state, structure(body)?),
+        Control::ControllerConfig => reports::controller_config(state, structure(body)?),
+        Control::ControllerStatus => reports::controller_status(state, structure(body)?),
         Control::GetPhyInfo => reports::get_phy_info(state, structure(body)?),
         Control::SetPhyInfo => set_phy_info::set_phy_info(state, structure(body)?),
         Control::LinkErrors => link_errors::link_errors(state, structure(body)?),
@@ -28,6 +30,7 @@ pub fn serve(
         Control::SataSignature => reports::sata_signature(state, structure(body)?),
         Control::ScsiAddress => addresses::scsi_address(state, structure(body)?),
         Control::DeviceAddress => addresses::device_address(state, structure(body)?),
+        Control::ConnectorInfo => reports::connector_info(state, structure(body)?),
     }
 }
 

@@ -4,7 +4,7 @@ use crate::layout::entity;
 use crate::layout::file::{
     BLOCK, CHECK, DRIVER_INFO, DRIVER_INFO_END, PHY_COUNT, ROWS_PER_BLOCK, ROW_COUNT,
 };
-use crate::{block_check, open, request, Phy, Row, State};
+use crate::{block_check, open, request, Connector, Phy, Row, State};
 
 pub const FULL: &[u8] = b"CSMI=Full;";
 
@@ -37,7 +37,8 @@ fn attach(mut phy: Phy, device_type: u8, target_protocols: u8, lowest: u8, highe
 }
 
 /// Five phys: 0 a SATA phy with its signature held, 1 without a device, 2 an expander on port 0,
-/// 3 a fixed SATA phy of 1.5 Gb/s without a signature, 4 a SATA phy on port 3; and two rows.
+/// 3 a fixed SATA phy of 1.5 Gb/s without a signature, 4 a SATA phy on port 3; two rows; and a
+/// controller and connectors without a zero among their free bytes.
 pub fn sample() -> State {
     let mut state = State::ZERO;
     state.level = 3;
@@ -54,6 +55,39 @@ pub fn sample() -> State {
     state.phys[4] = attach(bare(4, 3), 0x10, 0x05, 9, 9);
     state.rows[0] = row(1);
     state.rows[1] = row(2);
+    state.controller_config = std::array::from_fn(|i| 1 + i as u8);
+    state.controller_status = std::array::from_fn(|i| 0xB0 + i as u8);
+    let pinouts = [0x000F_0F03, 1, 2, 0x0000_0800, 0x0001_0000];
+    for (n, pinout) in (0..).zip(pinouts) {
+        state.connectors[usize::from(n)] = connector(n, pinout);
+    }
+    state
+}
+
+/// The sample with 32 phys and 64 rows.
+pub fn largest() -> State {
+    let mut state = sample();
+    (state.p, state.a) = (32, 64);
+    for n in 5..32 {
+        let phy = usize::from(n);
+        state.phys[phy] = bare(n, 1);
+        state.connectors[phy] = connector(n, 0x100);
+    }
+    state.rows = std::array::from_fn(|i| row(i as u8));
+    state
+}
+
+/// The largest, cut to these counts.
+pub fn cut(p: u8, a: u8) -> State {
+    let mut state = largest();
+    (state.p, state.a) = (p, a);
+    for phy in state.live_phys_mut() {
+        phy.entity[entity::PORT_IDENTIFIER] %= p;
+    }
+    for n in usize::from(p)..32 {
+        (state.phys[n], state.connectors[n]) = (Phy::ZERO, Connector::ZERO);
+    }
+    state.rows[usize::from(a)..].fill(Row::ZERO);
     state
 }
 
@@ -72,6 +106,13 @@ pub fn row(n: u8) -> Row {
     }
 }
 
+/// A connector of phy n with this pinout.
+pub fn connector(n: u8, pinout: u32) -> Connector {
+    let mut bytes = std::array::from_fn(|i| 1 + ((37 * usize::from(n) + i) % 251) as u8);
+    bytes[..4].copy_from_slice(&pinout.to_le_bytes());
+    Connector(bytes)
+}
+
 /// The blocks of a file that holds the state, their checks not yet set.
 pub fn blocks(state: &State) -> Vec<[u8; BLOCK]> {
     let mut first = [0; BLOCK];
@@ -85,6 +126,11 @@ pub fn blocks(state: &State) -> Vec<[u8; BLOCK]> {
     for rows in state.live_rows().chunks(ROWS_PER_BLOCK) {
         let rows: Vec<_> = rows.iter().map(Row::to_bytes).collect();
         blocks.push(block(rows.as_flattened()));
+    }
+    let controller = [&state.controller_config[..], &state.controller_status];
+    blocks.push(block(&controller.concat()));
+    for connector in state.live_connectors() {
+        blocks.push(block(&connector.0));
     }
     blocks
 }
@@ -122,10 +168,9 @@ pub fn opening(file: &[u8], p: u8) -> u32 {
 
 /// A sound buffer of a code with this body.
 pub fn buffer(code: u32, body: &[u8]) -> Vec<u8> {
-    let signature = if code == 1 {
-        b"CSMIALL\0"
-    } else {
-        b"CSMISAS\0"
+    let signature = match code {
+        1..=3 => b"CSMIALL\0",
+        _ => b"CSMISAS\0",
     };
     [
         &28u32.to_le_bytes()[..],

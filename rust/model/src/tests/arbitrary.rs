@@ -61,6 +61,9 @@ impl Numbers {
             }
             20 => vec![self.byte(); 2052],
             1 => vec![self.byte(); 174],
+            2 => vec![self.byte(); 176],
+            3 => vec![self.byte(); 36],
+            30 => vec![self.byte(); 1152],
             _ => {
                 let mut body = self.bytes(24);
                 body[0] = self.next() as u8 % 6;
@@ -76,7 +79,7 @@ fn requests_keep_the_state_sound() {
     let (mut state, mut disk) = (sample(), medium(5));
     let mut served = 0;
     for _ in 0..60_000 {
-        let code = [1, 20, 21, 22, 25, 26, 27, 28, 30][numbers.below(9)];
+        let code = [1, 2, 3, 20, 21, 22, 24, 25, 26, 27, 28, 30][numbers.below(12)];
         let body = numbers.body(code);
         let mut sent = buffer(code, &body);
         if numbers.below(4) == 0 {
@@ -133,7 +136,8 @@ fn any_state_and_buffer() {
 pub fn spoil(state: &mut State, numbers: &mut Numbers) {
     let phy: &mut Phy = &mut state.phys[numbers.below(32)];
     let row: &mut Row = &mut state.rows[numbers.below(64)];
-    match numbers.below(10) {
+    let connector = &mut state.connectors[numbers.below(32)].0;
+    match numbers.below(13) {
         0 => state.level = numbers.byte(),
         1 => state.p = numbers.byte(),
         2 => state.a = numbers.byte(),
@@ -143,6 +147,9 @@ pub fn spoil(state: &mut State, numbers: &mut Numbers) {
         6 => (phy.held, phy.fixed) = (numbers.byte(), numbers.byte()),
         7 => (phy.lowest, phy.highest) = (numbers.byte(), numbers.byte()),
         8 => row.os[numbers.below(4)] = numbers.byte(),
+        9 => state.controller_config[numbers.below(176)] = numbers.byte(),
+        10 => state.controller_status[numbers.below(36)] = numbers.byte(),
+        11 => connector[numbers.below(36)] = numbers.byte(),
         _ => row.sas_address[numbers.below(8)] = numbers.byte(),
     }
 }
@@ -155,7 +162,13 @@ fn any_file() {
         let mut blocks = sound.as_chunks::<BLOCK>().0.to_vec();
         for _ in 0..numbers.below(3) {
             let k = numbers.below(blocks.len());
-            blocks[k][numbers.below(if k == 0 { 4 } else { 110 })] = numbers.byte();
+            let below = match k {
+                0 => 4,
+                7 => 220,
+                8.. => 40,
+                _ => 110,
+            };
+            blocks[k][numbers.below(below)] = numbers.byte();
         }
         let mut file = sealed(blocks);
         if numbers.below(8) == 0 {

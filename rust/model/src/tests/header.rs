@@ -5,10 +5,12 @@ use crate::layout::entity;
 use crate::{denied, request, State};
 
 /// The smallest bodies that are served, by code.
-pub fn bodies() -> [(u32, Vec<u8>); 8] {
+pub fn bodies() -> [(u32, Vec<u8>); 11] {
     let row = row(1);
     [
         (1, vec![0; 174]),
+        (2, vec![0xCC; 176]),
+        (3, vec![0xCC; 36]),
         (20, vec![0xCC; 2052]),
         (21, vec![0; 8]),
         (22, vec![0; 20]),
@@ -16,6 +18,7 @@ pub fn bodies() -> [(u32, Vec<u8>); 8] {
         (26, vec![0; 24]),
         (27, [&row.sas_address[..], &row.sas_lun, &[9; 4]].concat()),
         (28, [&row.os[..], &[9; 16]].concat()),
+        (30, vec![0xCC; 1152]),
     ]
 }
 
@@ -42,7 +45,7 @@ fn number_107_then_106_then_100() {
 
 #[test]
 fn number_107_each_rule() {
-    let changes: [fn(&mut State); 14] = [
+    let changes: [fn(&mut State); 17] = [
         |state| state.level = 4,
         |state| state.p = 0,
         |state| state.p = 33,
@@ -55,6 +58,9 @@ fn number_107_each_rule() {
         |state| state.a = 4,
         |state| state.phys[31].counters[3] = 1,
         |state| state.rows[63].os[3] = 1,
+        |state| state.connectors[5].0[0] = 1,
+        |state| state.connectors[31].0[35] = 1,
+        |state| state.connectors[4].0[3] = 1,
         |state| state.phys[0].entity[entity::NEGOTIATED] = 8,
         |state| state.rows[0].os = state.rows[1].os,
     ];
@@ -84,7 +90,7 @@ fn header_checks() {
         for at in 4..12 {
             assert_eq!(change(at, b'x'), 2);
         }
-        assert_eq!(change(16, 2), 2);
+        assert_eq!(change(16, 24), 2);
         assert_eq!(change(17, 1), 2);
         // Length one short, one past the buffer, and far past it
         let length = body.len() as u32;
@@ -106,7 +112,7 @@ fn header_checks() {
 #[test]
 fn unknown_codes() {
     for code in (0..70).chain([u32::MAX, 257]) {
-        let known = matches!(code, 1 | 20..=22 | 25..=28);
+        let known = matches!(code, 1..=3 | 20..=22 | 25..=28 | 30);
         let mut sent = buffer(code, &[0; 2052]);
         if !known {
             assert_eq!(answer_of(&mut sample(), &mut sent), 2);

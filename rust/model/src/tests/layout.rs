@@ -3,7 +3,7 @@
 use super::adapter::{buffer, medium, sample};
 use super::arbitrary::Numbers;
 use crate::layout::state::SIZE;
-use crate::{request, Phy, Row, State};
+use crate::{request, Connector, Phy, Row, State};
 
 /// Bytes of which neighbours differ, also those a phy's or a row's bytes apart.
 fn counted() -> [u8; SIZE] {
@@ -38,6 +38,12 @@ fn every_field_has_its_place() {
         assert_eq!(row.sas_lun, bytes[8..16]);
         assert_eq!(row.os, bytes[16..]);
     }
+    assert_eq!(state.controller_config, bytes[4785..4961]);
+    assert_eq!(state.controller_status, bytes[4961..4997]);
+    for (n, connector) in state.connectors.iter().enumerate() {
+        assert_eq!(connector.0, bytes[4997 + 36 * n..][..36]);
+    }
+    assert_eq!(SIZE, 6149);
 }
 
 #[test]
@@ -78,6 +84,9 @@ fn every_state_comes_back() {
             sas_lun: numbers.array(),
             os: numbers.array(),
         });
+        state.controller_config = numbers.array();
+        state.controller_status = numbers.array();
+        state.connectors = std::array::from_fn(|_| Connector(numbers.array()));
         assert_eq!(State::from_bytes(&state.to_bytes()), state);
     }
 }

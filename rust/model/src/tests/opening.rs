@@ -1,7 +1,6 @@
 //! Each opening number, and the order of the checks.
 
-use super::adapter::{blocks, file, medium, opening, row, sample, sealed, FULL};
-use crate::layout::entity;
+use super::adapter::{blocks, file, largest, medium, opening, sample, sealed, FULL};
 use crate::{open, Phy, State};
 
 #[test]
@@ -14,16 +13,7 @@ fn accepted() {
 
 #[test]
 fn most_phys_and_rows() {
-    let mut state = sample();
-    state.p = 32;
-    for n in 5..32 {
-        state.phys[n] = state.phys[1].clone();
-        state.phys[n].entity[entity::PHY_IDENTIFIER] = n as u8;
-    }
-    state.a = 64;
-    for n in 0..64 {
-        state.rows[n] = row(n as u8);
-    }
+    let mut state = largest();
     assert_eq!(open(FULL, &file(&state), &medium(32)), (0, state.clone()));
     state.rows[63].os = state.rows[0].os;
     assert_eq!(opening(&file(&state), 32), 105);
@@ -90,9 +80,11 @@ fn number_104_unnamed_bytes() {
     let named = |k: usize, at: usize| match k {
         0 => at < 2 || (4..178).contains(&at),
         1..=5 => at < 104,
-        _ => at < 40,
+        6 => at < 40,
+        7 => at < 212,
+        _ => at < 36,
     };
-    for k in 0..7 {
+    for k in 0..13 {
         for at in (0..508).filter(|&at| !named(k, at)) {
             let mut blocks = blocks(&sample());
             blocks[k][at] = 1;

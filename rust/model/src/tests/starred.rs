@@ -58,9 +58,10 @@ fn checks() {
 
 #[test]
 fn file_lengths() {
-    assert_eq!(file_length(4, 25), 3072);
-    assert_eq!(file_length(4, 26), 3584);
-    assert_eq!(file_length(4, 0), 2560);
+    assert_eq!(file_length(4, 25), 5632);
+    assert_eq!(file_length(4, 26), 6144);
+    assert_eq!(file_length(4, 0), 5120);
+    assert_eq!(file_length(32, 64), 35_328);
 }
 
 #[test]

@@ -7,12 +7,12 @@ use model::codes::call;
 use model::layout::file::BLOCK;
 use model::layout::header::{CONTROL_CODE, LENGTH, RETURN_CODE};
 use model::layout::{DISK, MAX_PHYS};
-use model::{Phy, Row, State};
+use model::{Connector, Phy, Row, State};
 
 /// Room for a file, and for the buffer of a request; a line says how much of it is lent.
 const ROOM: usize = 65_536;
 
-/// HeaderLength 28, and the signature of every code but 1.
+/// HeaderLength 28, and the signature of every code but 1, 2 and 3.
 const HEADER_START: &[u8] = b"\x1c\0\0\0CSMISAS\0";
 
 pub struct Adapter {
@@ -41,6 +41,7 @@ impl Adapter {
             "l" => self.level_and_counts(line),
             "y" => self.phy(line),
             "w" => self.row(line),
+            "c" => self.connector(line),
             "o" => return Some(self.open(line)),
             "q" => return Some(self.request(line)),
             "#" => return Some(whole.to_string()),
@@ -72,6 +73,12 @@ impl Adapter {
     fn row(&mut self, mut line: Line) {
         let i: usize = line.number();
         self.state.rows[i] = Row::from_bytes(&line.patched());
+    }
+
+    /// c PHY AT:HEX ..
+    fn connector(&mut self, mut line: Line) {
+        let n: usize = line.number();
+        self.state.connectors[n] = Connector(line.patched());
     }
 
     /// o MEDIUM FILE STEP TEXT

@@ -32,7 +32,8 @@ pub fn of_bytes(bytes: &[u8]) -> u64 {
     after(START, bytes)
 }
 
-/// The level, the counts and the driver info, the phys, and the rows.
+/// The level, the counts and the driver info, the phys, the rows, the controller's configuration and
+/// status, and the connectors.
 pub fn of_state(state: &State) -> u64 {
     let bytes = state.to_bytes();
     let before = after(START, &bytes[..state::PHYS]);

@@ -35,7 +35,7 @@ fn buffers_of_20_to_28_bytes() {
         }
     }
     assert_eq!(answer(21, &mut sound.clone()), 0);
-    for control in [1, 20, 22, 25, 26, 27, 28] {
+    for control in [1, 2, 3, 20, 22, 25, 26, 27, 28, 30] {
         assert_eq!(answer(control, &mut sound.clone()), 3);
     }
     // no body at all

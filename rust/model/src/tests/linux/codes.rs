@@ -4,9 +4,11 @@ use super::{answer, buffer, code_of};
 use crate::tests::adapter::{fis, medium, passthrough, sample, sample_at};
 use crate::tests::header::bodies;
 
-/// The numbers that Linux's own ioctl calls have for the eight codes (section 10).
-const IOCTL: [u32; 8] = [
+/// The numbers that Linux's own ioctl calls have for the codes served (section 10).
+const IOCTL: [u32; 11] = [
     0xCC77_0001,
+    0xCC77_0002,
+    0xCC77_0003,
     0xCC77_0014,
     0xCC77_0015,
     0xCC77_0016,
@@ -14,12 +16,13 @@ const IOCTL: [u32; 8] = [
     0xCC77_0020,
     0xCC77_0021,
     0xCC77_0022,
+    0xCC77_0024,
 ];
 
 #[test]
 fn unknown_codes() {
     let others = [257, 0x0100_0001, 0x1500_0000, 0x8000_0015, u32::MAX];
-    let known = |code: &u32| matches!(code, 1 | 20..=22 | 25..=28);
+    let known = |code: &u32| matches!(code, 1..=3 | 20..=22 | 25..=28 | 30);
     let unknown = (0..300).filter(|code| !known(code));
     for code in unknown.chain(others).chain(IOCTL) {
         assert_eq!(answer(code, &mut buffer(&[0; 2052])), 2, "{code:x}");

@@ -8,16 +8,19 @@ use crate::tests::arbitrary::{spoil, Numbers};
 use crate::tests::header::bodies;
 use crate::{fields, request, request_linux, State};
 
-const CODES: [u32; 8] = [1, 20, 21, 22, 25, 26, 27, 28];
+const CODES: [u32; 11] = [1, 2, 3, 20, 21, 22, 25, 26, 27, 28, 30];
 
 /// A Length from the structure's end, and of code 25 its data's, to the body's.
 fn length(numbers: &mut Numbers, control: u32, body: &[u8]) -> u32 {
     let size = match control {
         1 => 174,
+        2 => 176,
+        3 => 36,
         20 => 2052,
         21 => 8,
         25 => 136 + u32::from_le_bytes(body[40..44].try_into().unwrap()) as usize,
         26 => 24,
+        30 => 1152,
         _ => 20,
     };
     (size + numbers.below(body.len() - size + 1)) as u32
@@ -50,9 +53,9 @@ fn the_first_header_at_full() {
     let mut numbers = Numbers::new(0x5A5A_0000_1234_5678);
     let (mut one, mut one_disk) = (sample(), medium(5));
     let (mut other, mut other_disk) = (sample(), medium(5));
-    let mut granted = [0; 8];
+    let mut granted = [0; CODES.len()];
     for _ in 0..20_000 {
-        let n = numbers.below(8);
+        let n = numbers.below(CODES.len());
         let body = body(&mut numbers, n);
         let mut first = adapter::buffer(CODES[n], &body);
         let of_first = length(&mut numbers, CODES[n], &body);
@@ -91,7 +94,7 @@ fn any_state_and_buffer() {
         let mut disk = vec![0; length];
         let length = numbers.below(300);
         let mut sent = numbers.bytes(length);
-        let control = CODES[numbers.below(8)];
+        let control = CODES[numbers.below(CODES.len())];
         let before = (state.clone(), sent.clone());
         let sound = fields::state_is_sound(&state);
         let number = request_linux(&mut state, &mut disk, control, &mut sent);
