@@ -29,7 +29,7 @@ extern "C" {
 
 /* The state. Every byte is named here, and every byte string of this size stands for a state, one that keeps the rules of document 01 or
    one that ascheknopf_request refuses with 107. It holds no pointers: it may be copied, stored and compared. */
-#define ASCHEKNOPF_STATE_SIZE 4785
+#define ASCHEKNOPF_STATE_SIZE 6149
 
 #define ASCHEKNOPF_LEVEL 0       /* 0 None, 1 Restricted, 2 Limited, 3 Full; any other value is refused */
 #define ASCHEKNOPF_PHY_COUNT 1   /* p, 1 to 32 */
@@ -60,6 +60,20 @@ extern "C" {
 #define ASCHEKNOPF_ROW_TARGET 18
 #define ASCHEKNOPF_ROW_LUN 19
 
+/* The controller. Its structures are packed, so that the firmware revisions of the first begin at its byte 133. */
+#define ASCHEKNOPF_CONTROLLER 4785 /* the Configuration of code 2 (6.2.4.3) */
+#define ASCHEKNOPF_CONTROLLER_SIZE 176
+#define ASCHEKNOPF_STATUS 4961 /* the Status of code 3 (6.3.4.1) */
+#define ASCHEKNOPF_STATUS_SIZE 36
+
+/* The connector of phy n, a Reference of code 30 (6.18.4.1), for n from 0 to 31; those from p on are 0. The offsets below are in its bytes;
+   the last 15 are reserved. */
+#define ASCHEKNOPF_CONNECTOR(n) (4997 + 36 * (size_t)(n))
+#define ASCHEKNOPF_CONNECTOR_SIZE 36
+#define ASCHEKNOPF_CONNECTOR_PINOUT 0 /* 4 bytes; a bit outside section 10's constants, 000F0F03h, is refused */
+#define ASCHEKNOPF_CONNECTOR_NAME 4   /* bConnector, 16 bytes */
+#define ASCHEKNOPF_CONNECTOR_LOCATION 20
+
 /* Opens an adapter: the number of the opening. A state of another size is 107, before every other check, and stays as it was. Else 0 is
    accepted, and the state is the level of the text and what the file holds; 101 text, 102 file length, 103 block check, 104 count or
    field, 105 shared row and 106 medium length are refused, and the state is ASCHEKNOPF_STATE_SIZE zero bytes. What the state was before
@@ -86,11 +100,13 @@ uint32_t ascheknopf_request(uint8_t *state, size_t state_len,
 #define ASCHEKNOPF_LINUX_DIRECTION 16  /* Direction, 2 bytes: 0 read, 1 write; any other is return code 3 */
 
 /* The control code of a Linux request is document 01's number, which is handed in beside the buffer. Section 10 has for ioctl:
-     1  get driver info      0xCC770001        25  STP passthrough      0xCC770019
-     20 get phy info         0xCC770014        26  get SATA signature   0xCC770020
-     21 set phy info         0xCC770015        27  get SCSI address     0xCC770021
-     22 get link errors      0xCC770016        28  get device address   0xCC770022
-   These numbers themselves are unknown codes here (return code 2), and the last three do not end in document 01's. */
+     1  get driver info        0xCC770001        25  STP passthrough      0xCC770019
+     2  get controller config  0xCC770002        26  get SATA signature   0xCC770020
+     3  get controller status  0xCC770003        27  get SCSI address     0xCC770021
+     20 get phy info           0xCC770014        28  get device address   0xCC770022
+     21 set phy info           0xCC770015        30  get connector info   0xCC770024
+     22 get link errors        0xCC770016
+   These numbers themselves are unknown codes here (return code 2), and the last four do not end in document 01's. */
 
 /* Handles one request under the Linux header, as ascheknopf_request does one under the first. Its control code is handed in beside the
    buffer: document 01's number, such as 1 for get driver info, and not an ioctl number of Linux. A buffer under 20 bytes is 100. There is

@@ -12,7 +12,7 @@ enum { DATA_READ = 0, DATA_WRITE = 1 };
 enum { SECTOR = 512, DISK = 8192, LARGEST = 2052 };
 
 /* Everything that the simulator works on is ours. */
-static uint8_t file[36 * 512], medium[32 * DISK], state[ASCHEKNOPF_STATE_SIZE], buffer[FIRST + LARGEST];
+static uint8_t file[69 * 512], medium[32 * DISK], state[ASCHEKNOPF_STATE_SIZE], buffer[FIRST + LARGEST];
 static size_t file_len, medium_len;
 
 static uint32_t word(const uint8_t *at)
@@ -59,6 +59,28 @@ static const char *rate_in_words(uint8_t rate)
     }
 }
 
+static const char *status_in_words(uint32_t status)
+{
+    switch (status) {
+    case 1: return "good";
+    case 2: return "failed";
+    case 3: return "offline";
+    case 4: return "powered off";
+    default: return "unknown";
+    }
+}
+
+static const char *location_in_words(uint8_t location)
+{
+    switch (location) {
+    case 2: return "internal";
+    case 4: return "external";
+    case 8: return "switchable";
+    case 0x10: return "auto";
+    default: return "place unknown";
+    }
+}
+
 /* A request without its header: the control code by document 01, the Direction of the Linux header, and the body. */
 struct request {
     const char *what;
@@ -85,7 +107,7 @@ static const uint8_t *send_first(const struct request *r)
 {
     memset(buffer, 0, FIRST);
     put_word(buffer, FIRST);
-    memcpy(buffer + 4, r->control == 1 ? "CSMIALL" : "CSMISAS", 8);
+    memcpy(buffer + 4, r->control <= 3 ? "CSMIALL" : "CSMISAS", 8);
     put_word(buffer + 16, r->control);
     put_word(buffer + 24, (uint32_t)r->size);
     memcpy(buffer + FIRST, r->body, r->size);
@@ -110,6 +132,32 @@ static void send_both(const struct request *r, void (*show)(const uint8_t *reply
     printf("%s\n", r->what);
     show(send_first(r));
     show(send_linux(r));
+}
+
+static void show_controller(const uint8_t *reply)
+{
+    if (!reply)
+        return;
+    printf("        serial number %.81s, firmware", (const char *)reply + 52);
+    for (int i = 133; i < 141; i += 2)
+        printf("%c%u", i == 133 ? ' ' : '.', reply[i] | reply[i + 1] << 8u);
+    printf("\n");
+}
+
+static void show_status(const uint8_t *reply)
+{
+    if (reply)
+        printf("        %s\n", status_in_words(word(reply)));
+}
+
+/* References from the number of phys on are zero. */
+static void show_connectors(const uint8_t *reply)
+{
+    for (unsigned n = 0; reply && n < state[ASCHEKNOPF_PHY_COUNT]; n++) {
+        const uint8_t *connector = reply + ASCHEKNOPF_CONNECTOR_SIZE * n;
+        printf("        phy %u: %.16s, %s\n", n, (const char *)connector + ASCHEKNOPF_CONNECTOR_NAME,
+               location_in_words(connector[ASCHEKNOPF_CONNECTOR_LOCATION]));
+    }
 }
 
 static void print_device(const uint8_t *attached)
@@ -165,12 +213,18 @@ static void console(const char *text)
 {
     uint32_t number = ascheknopf_open((const uint8_t *)text, strlen(text), file, file_len, medium, medium_len, state, sizeof state);
     printf("open with %s %u, %s\n", text, (unsigned)number, number_in_words(number));
+    const struct request controller = {"controller configuration", 2, DATA_READ, 176, {0}};
+    const struct request status = {"controller status", 3, DATA_READ, 36, {0}};
+    const struct request connectors = {"connectors", 30, DATA_READ, 1152, {0}};
     const struct request phy_info = {"phy info", 20, DATA_READ, 2052, {0}};
     const struct request set_phy_info = {"set phy info, phy 0 at 1.5 Gb/s", 21, DATA_WRITE, 8, {0, 0, 0, 8}};
     const struct request write = sector("write sector 3", DATA_WRITE, 0x30, "written");
     const struct request read = sector("read sector 3", DATA_READ, 0x20, "");
     /* the number of an ioctl is not the control code that goes beside the buffer */
     const struct request ioctl = {"phy info by Linux's own number, CC770014h", 0xCC770014, DATA_READ, 2052, {0}};
+    send_both(&controller, show_controller);
+    send_both(&status, show_status);
+    send_both(&connectors, show_connectors);
     send_both(&phy_info, show_phys);
     send_both(&set_phy_info, show_link);
     send_both(&write, show_disk);

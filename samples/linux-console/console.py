@@ -5,8 +5,8 @@ first header alone. console.c does the same in C. LIBRARY is the archive as a sh
 import ctypes
 import sys
 
-STATE_SIZE = 4785
-LEVEL = 0
+STATE_SIZE = 6149
+LEVEL, PHY_COUNT = 0, 1
 FIRST, FIRST_CODE = 28, 20  # sizes of the two headers, and where the return code is in each
 LINUX, LINUX_CODE = 20, 8
 DATA_READ, DATA_WRITE = 0, 1
@@ -25,10 +25,16 @@ CODES = {
     4: "denied at this level",
 }
 RATES = {1: "disabled", 2: "failed", 8: "1.5 Gb/s", 9: "3.0 Gb/s"}
+STATUSES = {1: "good", 2: "failed", 3: "offline", 4: "powered off"}
+LOCATIONS = {2: "internal", 4: "external", 8: "switchable", 0x10: "auto"}
 
 
 def word(data, at):
     return int.from_bytes(data[at : at + 4], "little")
+
+
+def half(data, at):
+    return int.from_bytes(data[at : at + 2], "little")
 
 
 def number_in_words(number):
@@ -67,7 +73,7 @@ class Request:
         """HeaderLength, the signature, the control code, and a Length that does not count the header."""
         header = bytearray(FIRST)
         header[0] = FIRST
-        header[4:11] = b"CSMIALL" if self.control == 1 else b"CSMISAS"
+        header[4:11] = b"CSMIALL" if self.control <= 3 else b"CSMISAS"
         header[16:20] = self.control.to_bytes(4, "little")
         header[24:28] = len(self.body).to_bytes(4, "little")
         return header + self.body
@@ -123,6 +129,24 @@ class Adapter:
         show(self, self.send_linux(request))
 
 
+def show_controller(adapter, reply):
+    if reply:
+        firmware = ".".join(str(half(reply, at)) for at in (133, 135, 137, 139))
+        print(f"        serial number {text_at(reply, 52, 81)}, firmware {firmware}")
+
+
+def show_status(adapter, reply):
+    if reply:
+        print(f"        {STATUSES.get(word(reply, 0), 'unknown')}")
+
+
+def show_connectors(adapter, reply):
+    """References from the number of phys on are zero."""
+    for n in range(adapter.state[PHY_COUNT] if reply else 0):
+        connector = reply[36 * n : 36 * n + 36]
+        print(f"        phy {n}: {text_at(connector, 4, 16)}, {LOCATIONS.get(connector[20], 'place unknown')}")
+
+
 def show_phys(adapter, reply):
     for n in range(reply[0] if reply else 0):
         entity = reply[4 + 64 * n : 68 + 64 * n]
@@ -164,6 +188,9 @@ def console(adapter, text):
     set_phy_info = Request("set phy info, phy 0 at 1.5 Gb/s", 21, DATA_WRITE, bytes([0, 0, 0, 8, 0, 0, 0, 0]))
     # the number of an ioctl is not the control code that goes beside the buffer
     ioctl = Request("phy info by Linux's own number, CC770014h", 0xCC770014, DATA_READ, bytes(2052))
+    adapter.send_both(Request("controller configuration", 2, DATA_READ, bytes(176)), show_controller)
+    adapter.send_both(Request("controller status", 3, DATA_READ, bytes(36)), show_status)
+    adapter.send_both(Request("connectors", 30, DATA_READ, bytes(1152)), show_connectors)
     adapter.send_both(Request("phy info", 20, DATA_READ, bytes(2052)), show_phys)
     adapter.send_both(set_phy_info, show_link)
     adapter.send_both(sector(adapter, "write sector 3", DATA_WRITE, 0x30, b"written"), show_disk)

@@ -8,7 +8,7 @@
 enum { HEADER = 28, CODE = 20, SECTOR = 512, DISK = 8192 };
 
 /* Everything that the simulator works on is ours. */
-static uint8_t file[36 * 512], medium[32 * DISK], state[ASCHEKNOPF_STATE_SIZE], buffer[HEADER + 2052];
+static uint8_t file[69 * 512], medium[32 * DISK], state[ASCHEKNOPF_STATE_SIZE], buffer[HEADER + 2052];
 static size_t file_len, medium_len;
 
 static uint32_t word(const uint8_t *at)
@@ -55,6 +55,28 @@ static const char *rate_in_words(uint8_t rate)
     }
 }
 
+static const char *status_in_words(uint32_t status)
+{
+    switch (status) {
+    case 1: return "good";
+    case 2: return "failed";
+    case 3: return "offline";
+    case 4: return "powered off";
+    default: return "unknown";
+    }
+}
+
+static const char *location_in_words(uint8_t location)
+{
+    switch (location) {
+    case 2: return "internal";
+    case 4: return "external";
+    case 8: return "switchable";
+    case 0x10: return "auto";
+    default: return "place unknown";
+    }
+}
+
 /* By the Attached bytes of a PHY_ENTITY. */
 static const char *device_in_words(const uint8_t *attached)
 {
@@ -74,7 +96,7 @@ static uint8_t *request(uint8_t code, size_t size)
 {
     memset(buffer, 0, sizeof buffer);
     buffer[0] = HEADER;
-    memcpy(buffer + 4, code == 1 ? "CSMIALL" : "CSMISAS", 8);
+    memcpy(buffer + 4, code <= 3 ? "CSMIALL" : "CSMISAS", 8);
     buffer[16] = code;
     buffer[24] = size & 0xFF;
     buffer[25] = size >> 8 & 0xFF;
@@ -97,6 +119,50 @@ static int send(const char *what, size_t length)
 static int send_body(const char *what, size_t size)
 {
     return send(what, HEADER + size);
+}
+
+/* Four numbers of 16 bits. */
+static void print_revision(const char *what, const uint8_t *at)
+{
+    printf("%s %u.%u.%u.%u", what, at[0] | at[1] << 8u, at[2] | at[3] << 8u, at[4] | at[5] << 8u, at[6] | at[7] << 8u);
+}
+
+/* A bit for a connector of one lane, and one for each lane of the others. */
+static void print_pinout(uint32_t pinout)
+{
+    if (pinout & 2)
+        printf(", SFF-8482");
+    for (int lane = 1; lane <= 4; lane++) {
+        if (pinout & 0x80u << lane)
+            printf(", SFF-8470 lane %d", lane);
+        if (pinout & 0x8000u << lane)
+            printf(", SFF-8484 lane %d", lane);
+    }
+}
+
+/* What a console shows before anything else: the controller, how it is, and where its phys are plugged in. */
+static void front_page(void)
+{
+    const uint8_t *body = request(2, 176);
+    if (send_body("controller configuration", 176)) {
+        printf("    serial number %.81s, board %08Xh", (const char *)body + 52, (unsigned)word(body + 12));
+        print_revision("; firmware", body + 133);
+        print_revision(", BIOS", body + 141);
+        printf("\n");
+    }
+    request(3, 36);
+    if (send_body("controller status", 36))
+        printf("    %s\n", status_in_words(word(body)));
+    request(30, 1152);
+    if (!send_body("connectors", 1152))
+        return;
+    for (unsigned n = 0; n < state[ASCHEKNOPF_PHY_COUNT]; n++) {
+        const uint8_t *connector = body + ASCHEKNOPF_CONNECTOR_SIZE * n;
+        printf("    phy %u: %.16s, %s", n, (const char *)connector + ASCHEKNOPF_CONNECTOR_NAME,
+               location_in_words(connector[ASCHEKNOPF_CONNECTOR_LOCATION]));
+        print_pinout(word(connector + ASCHEKNOPF_CONNECTOR_PINOUT));
+        printf("\n");
+    }
 }
 
 static void driver_info(void)
@@ -157,6 +223,7 @@ static void console(const char *text)
     uint32_t number = ascheknopf_open((const uint8_t *)text, strlen(text), file, file_len, medium, medium_len, state, sizeof state);
     printf("open with %s %u, %s\n", text, (unsigned)number, number_in_words(number));
     printf("    level %u, %u phys, %u rows\n", state[ASCHEKNOPF_LEVEL], state[ASCHEKNOPF_PHY_COUNT], state[ASCHEKNOPF_ROW_COUNT]);
+    front_page();
     driver_info();
     phy_info();
     link_errors();

@@ -5,7 +5,7 @@ LIBRARY is the archive as a shared object, which `build` makes."""
 import ctypes
 import sys
 
-STATE_SIZE = 4785
+STATE_SIZE = 6149
 LEVEL, PHY_COUNT, ROW_COUNT = 0, 1, 2
 HEADER, CODE, SECTOR, DISK = 28, 20, 512, 8192
 
@@ -29,6 +29,8 @@ CODES = {
     2008: "connection failed",
 }
 RATES = {1: "disabled", 2: "failed", 8: "1.5 Gb/s", 9: "3.0 Gb/s"}
+STATUSES = {1: "good", 2: "failed", 3: "offline", 4: "powered off"}
+LOCATIONS = {2: "internal", 4: "external", 8: "switchable", 0x10: "auto"}
 
 
 def word(data, at):
@@ -54,6 +56,22 @@ def device(attached):
     if attached[0] != 0x10:
         return "expander"
     return "SATA disk" if attached[3] & 1 else "SAS device"
+
+
+def revision(data, at):
+    """Four numbers of 16 bits."""
+    return ".".join(str(half(data, at + 2 * i)) for i in range(4))
+
+
+def pinout(bits):
+    """A bit for a connector of one lane, and one for each lane of the others."""
+    found = ", SFF-8482" if bits & 2 else ""
+    for lane in range(1, 5):
+        if bits & 0x80 << lane:
+            found += f", SFF-8470 lane {lane}"
+        if bits & 0x8000 << lane:
+            found += f", SFF-8484 lane {lane}"
+    return found
 
 
 def lent(data):
@@ -89,10 +107,30 @@ def request(code, body):
     """A sound request of a code: its header and the body."""
     header = bytearray(HEADER)
     header[0] = HEADER
-    header[4:11] = b"CSMIALL" if code == 1 else b"CSMISAS"
+    header[4:11] = b"CSMIALL" if code <= 3 else b"CSMISAS"
     header[16] = code
     header[24:28] = len(body).to_bytes(4, "little")
     return header + body
+
+
+def front_page(adapter):
+    """What a console shows before anything else: the controller, how it is, and where its phys are plugged in."""
+    buffer = request(2, bytes(176))
+    if adapter.send("controller configuration", buffer):
+        body = buffer[HEADER:]
+        serial, board = text_at(body, 52, 81), word(body, 12)
+        revisions = f"firmware {revision(body, 133)}, BIOS {revision(body, 141)}"
+        print(f"    serial number {serial}, board {board:08X}h; {revisions}")
+    buffer = request(3, bytes(36))
+    if adapter.send("controller status", buffer):
+        print(f"    {STATUSES.get(word(buffer, HEADER), 'unknown')}")
+    buffer = request(30, bytes(1152))
+    if not adapter.send("connectors", buffer):
+        return
+    for n in range(adapter.state[PHY_COUNT]):
+        connector = buffer[HEADER + 36 * n : HEADER + 36 * n + 36]
+        place = LOCATIONS.get(connector[20], "place unknown")
+        print(f"    phy {n}: {text_at(connector, 4, 16)}, {place}{pinout(word(connector, 0))}")
 
 
 def driver_info(adapter):
@@ -147,6 +185,7 @@ def console(adapter, text):
     print(f"open with {text.decode('ascii')} {number}, {NUMBERS[number]}")
     state = adapter.state
     print(f"    level {state[LEVEL]}, {state[PHY_COUNT]} phys, {state[ROW_COUNT]} rows")
+    front_page(adapter)
     driver_info(adapter)
     phy_info(adapter)
     link_errors(adapter)

@@ -1,5 +1,5 @@
 /* Requests whatever their header: a control code, the lowest level that may do it, a body, and the return code where no level denies it,
-   all by document 01, W-202 and section 10 of 001. And the two headers that they can be put behind. */
+   all by document 01, W-202, W-204 and section 10 of 001. And the two headers that they can be put behind. */
 #ifndef ASKED_H
 #define ASKED_H
 
@@ -30,12 +30,14 @@ enum { STP_SIZE = 136 + 512 };
 
 /* On the adapter of samples/good. */
 enum {
-    DRIVER_INFO, PHY_INFO, SET_PHY_INFO, LINK_ERRORS, CLEAR, WRITE, READ, IDENTIFY, POWER_MODE, WRITE_BUFFER, PACKET, SIGNATURE,
-    SCSI_ADDRESS, DEVICE_ADDRESS, GRANTS
+    DRIVER_INFO, CONTROLLER, STATUS, PHY_INFO, SET_PHY_INFO, LINK_ERRORS, CLEAR, WRITE, READ, IDENTIFY, POWER_MODE, WRITE_BUFFER, PACKET,
+    SIGNATURE, SCSI_ADDRESS, DEVICE_ADDRESS, CONNECTORS, GRANTS
 };
 
 static const struct asked GRANTED[GRANTS] = {
     [DRIVER_INFO] = {"driver info", 1, 1, 174, 0, {0}},
+    [CONTROLLER] = {"controller configuration", 2, 1, 176, 0, {0}},
+    [STATUS] = {"controller status", 3, 1, 36, 0, {0}},
     [PHY_INFO] = {"phy info", 20, 1, 2052, 0, {0}},
     [SET_PHY_INFO] = {"set phy info", 21, 3, 8, 0, {0, 0, 0, 8, 2}},
     [LINK_ERRORS] = {"link errors", 22, 1, 20, 0, {0, 0}},
@@ -49,6 +51,7 @@ static const struct asked GRANTED[GRANTS] = {
     [SIGNATURE] = {"signature", 26, 1, 24, 0, {0}},
     [SCSI_ADDRESS] = {"SCSI address", 27, 1, 20, 0, {0x50, 0, 0xC5, 0, 0, 0, 0, 2}},
     [DEVICE_ADDRESS] = {"device address", 28, 1, 20, 0, {0, 0, 2, 0}},
+    [CONNECTORS] = {"connectors", 30, 1, 1152, 0, {0}},
 };
 
 /* Refused by their codes' own checks, on the adapter of samples/refusals. */
@@ -88,6 +91,12 @@ static inline void check_asked(const char *test, const struct asked *a, uint32_t
     check_at(name, vector, holds);
 }
 
+/* The signature of a control code, with its zero: 8 bytes. */
+static inline const char *signature(uint32_t control)
+{
+    return control <= 3 ? "CSMIALL" : "CSMISAS";
+}
+
 /* The body in so many bytes. */
 static inline void put_body(const struct asked *a, uint8_t *body, size_t length)
 {
@@ -100,7 +109,7 @@ static inline size_t put_first(const struct asked *a, size_t more, uint8_t *buff
 {
     memset(buffer, 0, FIRST);
     buffer[0] = FIRST;
-    memcpy(buffer + 4, a->control == 1 ? "CSMIALL" : "CSMISAS", 8);
+    memcpy(buffer + 4, signature(a->control), 8);
     put_word(buffer + FIRST_CONTROL, a->control);
     put_word(buffer + FIRST_LENGTH, a->size);
     put_body(a, buffer + FIRST, a->size + more);

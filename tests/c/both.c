@@ -1,6 +1,6 @@
 /* Sessions with requests under both headers, ascheknopf_run_both: lines and replies, the same as by calls one by one, and the same as by
-   ascheknopf_run where all have the first header. What is expected was written down from W-201, W-202, document 01, the header file and
-   the descriptions of the samples. Runs in the repository's root. */
+   ascheknopf_run where all have the first header. What is expected was written down from W-201, W-202, W-204, document 01, the header file
+   and the descriptions of the samples. Runs in the repository's root. */
 #define PROGRAM "both.c"
 #include "both.h"
 
@@ -41,6 +41,11 @@ static void replies(void)
     check("link errors, none left", all(reply(9) + FIRST + 4, 16, 0));
     check("a read, the write denied", word(reply(11) + FIRST + 132) == SECTOR && all(reply(11) + FIRST + 136, SECTOR, 0));
     check("a read, written", word(reply(13) + FIRST + 132) == SECTOR && all(reply(13) + FIRST + 136, SECTOR, FILL));
+    /* behind block 0, the phys' and the rows' come the controller's and the connectors' */
+    const uint8_t *controller = run.file + (2 + PHYS) * 512;
+    check("the controller", memcmp(reply(20) + FIRST, controller, 176) == 0 && memcmp(reply(21) + LINUX, controller + 176, 36) == 0);
+    check("the connectors", memcmp(reply(22) + FIRST + 3 * 36, controller + 4 * 512, 36) == 0
+                            && all(reply(22) + FIRST + PHYS * 36, (32 - PHYS) * 36, 0));
 }
 
 /* Request n by the call of its header, in place, and its line. */
@@ -163,10 +168,10 @@ int main(void)
 {
     const char *texts[6] = {"CSMI=None;", RESTRICTED, "CSMI=Limited;", FULL, "", "CSMI=full;"};
     const char *samples[3] = {"good", "writes", "refusals"};
-    /* requests 2, 5, 8, 12, 14, 16, 17 and 19 have the Linux header */
-    const uint32_t none[REQUESTS] = {4, 0, 4, 4, 0, 4, 4, 0, 4, 4, 4, 0, 4, NONE, NONE, 3, 2, 3, 3};
-    const uint32_t low[REQUESTS] = {0, 0, 4, 0, 0, 0, 4, 0, 0, 4, 0, 0, 0, NONE, NONE, 3, 2, 3, 3};
-    const uint32_t full[REQUESTS] = {0, 0, 0, 0, 0, 0, 0, 0, 0, 0, 0, 0, 0, NONE, NONE, 3, 2, 3, 3};
+    /* requests 2, 5, 8, 12, 14, 16, 17, 19 and 21 have the Linux header */
+    const uint32_t none[REQUESTS] = {4, 0, 4, 4, 0, 4, 4, 0, 4, 4, 4, 0, 4, NONE, NONE, 3, 2, 3, 3, 4, 0, 4};
+    const uint32_t low[REQUESTS] = {0, 0, 4, 0, 0, 0, 4, 0, 0, 4, 0, 0, 0, NONE, NONE, 3, 2, 3, 3, 0, 0, 0};
+    const uint32_t full[REQUESTS] = {0, 0, 0, 0, 0, 0, 0, 0, 0, 0, 0, 0, 0, NONE, NONE, 3, 2, 3, 3, 0, 0, 0};
 
     make_mixed();
     places();

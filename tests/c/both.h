@@ -54,7 +54,7 @@ static inline uint8_t *add_linux(int i)
 }
 
 /* Both kinds in turn, on the adapter of samples/good. */
-enum { REQUESTS = 19 };
+enum { REQUESTS = 22 };
 static struct run mixed;
 
 static inline void make_mixed(void)
@@ -80,6 +80,9 @@ static inline void make_mixed(void)
     add(UNDER_LINUX, 0xCC770001, LINUX);
     add(UNDER_FIRST, 0, FIRST);
     add_linux(PACKET)[LINUX_DIRECTION] = 2;
+    add_first(CONTROLLER);
+    add_linux(STATUS);
+    add_first(CONNECTORS);
     mixed = run;
 }
 

@@ -1,9 +1,9 @@
 /* The two calls of include/ascheknopf.h: an opening, requests one at a time, and refusals that touch nothing. What is expected was written
-   down from document 01, W-202 and the description of samples/good. Runs in the repository's root. */
+   down from document 01, W-202, W-204 and the description of samples/good. Runs in the repository's root. */
 #define PROGRAM "calls.c"
-#include "lent.h"
+#include "blocks.h"
 
-enum { ROWS = 3, HEADER = 28, CODE = 20 };
+enum { HEADER = 28, CODE = 20 };
 
 static uint32_t handled(void)
 {
@@ -16,7 +16,7 @@ static uint8_t *request(uint8_t code, size_t size)
 {
     memset(lent.buffer, 0, sizeof lent.buffer);
     lent.buffer[0] = HEADER;
-    memcpy(lent.buffer + 4, code == 1 ? "CSMIALL" : "CSMISAS", 8);
+    memcpy(lent.buffer + 4, code <= 3 ? "CSMIALL" : "CSMISAS", 8);
     lent.buffer[16] = code;
     lent.buffer[24] = size & 0xFF;
     lent.buffer[25] = size >> 8 & 0xFF;
@@ -42,22 +42,14 @@ static int answered(uint32_t code)
     return handled() == 0 && word(lent.buffer + CODE) == code;
 }
 
-/* Every byte of the state, by the file: block 0, a block for each phy, and the rows. */
-static int state_is_the_files(uint8_t level)
+/* Where the tables of the state begin and end, one behind the other. */
+static void places(void)
 {
-    int same = lent.state[ASCHEKNOPF_LEVEL] == level && lent.state[ASCHEKNOPF_PHY_COUNT] == PHYS
-        && lent.state[ASCHEKNOPF_ROW_COUNT] == ROWS
-        && memcmp(lent.state + ASCHEKNOPF_DRIVER_INFO, lent.file + 4, ASCHEKNOPF_DRIVER_INFO_SIZE) == 0;
-    for (size_t n = 0; n < 32; n++) {
-        const uint8_t *phy = lent.state + ASCHEKNOPF_PHY(n);
-        same = same && (n < PHYS ? memcmp(phy, lent.file + 512 * (1 + n), ASCHEKNOPF_PHY_SIZE) == 0 : all(phy, ASCHEKNOPF_PHY_SIZE, 0));
-    }
-    for (size_t i = 0; i < 64; i++) {
-        const uint8_t *row = lent.state + ASCHEKNOPF_ROW(i);
-        same = same && (i < ROWS ? memcmp(row, lent.file + 512 * (1 + PHYS) + 20 * i, ASCHEKNOPF_ROW_SIZE) == 0
-                                 : all(row, ASCHEKNOPF_ROW_SIZE, 0));
-    }
-    return same && ASCHEKNOPF_ROW(64) == ASCHEKNOPF_STATE_SIZE;
+    check("phys and rows", ASCHEKNOPF_PHY(0) == ASCHEKNOPF_DRIVER_INFO + ASCHEKNOPF_DRIVER_INFO_SIZE
+                           && ASCHEKNOPF_ROW(0) == ASCHEKNOPF_PHY(32) && ASCHEKNOPF_CONTROLLER == ASCHEKNOPF_ROW(64));
+    check("the controller", ASCHEKNOPF_STATUS == ASCHEKNOPF_CONTROLLER + ASCHEKNOPF_CONTROLLER_SIZE
+                            && ASCHEKNOPF_CONNECTOR(0) == ASCHEKNOPF_STATUS + ASCHEKNOPF_STATUS_SIZE);
+    check("the connectors", ASCHEKNOPF_CONNECTOR(32) == ASCHEKNOPF_STATE_SIZE);
 }
 
 static void openings(void)
@@ -98,6 +90,8 @@ static void refused_openings(void)
     refused("a damaged block", FULL, 103);
     lent.file_len--;
     refused("a short file", FULL, 102);
+    lent.file_len = CONTROLLER_BLOCK * BLOCK;
+    refused("a file that ends behind its rows", FULL, 102);
     lent.file_len = 0;
     refused("no file", FULL, 102);
 }
@@ -184,9 +178,10 @@ static void refusals(void)
     start("good");
     check("the opening", opened(FULL) == 0);
     const struct lent sound = lent;
-    const size_t places[5] = {ASCHEKNOPF_LEVEL, ASCHEKNOPF_PHY(1) + 20, ASCHEKNOPF_PHY(2) + ASCHEKNOPF_PHY_FIXED,
-                              ASCHEKNOPF_PHY(31) + ASCHEKNOPF_PHY_SIZE - 1, ASCHEKNOPF_ROW(63) + ASCHEKNOPF_ROW_LUN};
-    for (int i = 0; i < 5; i++) {
+    const size_t places[7] = {ASCHEKNOPF_LEVEL, ASCHEKNOPF_PHY(1) + 20, ASCHEKNOPF_PHY(2) + ASCHEKNOPF_PHY_FIXED,
+                              ASCHEKNOPF_PHY(31) + ASCHEKNOPF_PHY_SIZE - 1, ASCHEKNOPF_ROW(63) + ASCHEKNOPF_ROW_LUN,
+                              ASCHEKNOPF_CONNECTOR(3) + ASCHEKNOPF_CONNECTOR_PINOUT, ASCHEKNOPF_STATE_SIZE - 1};
+    for (int i = 0; i < 7; i++) {
         lent = sound;
         lent.state[places[i]] = 0x77;
         request(1, 174);
@@ -209,7 +204,7 @@ static void refusals(void)
 
 static void state_lengths(void)
 {
-    const size_t lengths[6] = {0, 1, 3, 4096, ASCHEKNOPF_STATE_SIZE - 1, ASCHEKNOPF_STATE_SIZE + 1};
+    const size_t lengths[6] = {0, 1, 3, ASCHEKNOPF_CONTROLLER, ASCHEKNOPF_STATE_SIZE - 1, ASCHEKNOPF_STATE_SIZE + 1};
     start("good");
     check("the opening", opened(FULL) == 0);
     const struct lent sound = lent;
@@ -253,6 +248,7 @@ static void null_pointers(void)
 
 int main(void)
 {
+    places();
     openings();
     refused_openings();
     granted();

@@ -6,7 +6,8 @@
 #include "ascheknopf.h"
 #include "check.h"
 
-enum { PHYS = 4, FILE_SIZE = 6 * 512, DISK = 8192, SECTOR = 512, MOST = 28 + 2052 + 8 };
+/* The samples' files have 11 blocks, with the one for their rows; there is room for another one of rows. */
+enum { PHYS = 4, FILE_SIZE = 12 * 512, DISK = 8192, SECTOR = 512, MOST = 28 + 2052 + 8 };
 
 /* By the level's number. */
 static const char *const TEXTS[4] = {"CSMI=None;", "CSMI=Restricted;", "CSMI=Limited;", "CSMI=Full;"};

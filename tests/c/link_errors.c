@@ -1,7 +1,7 @@
 /* Code 22 with every reset byte at every level, under both headers: which requests are denied, and what becomes of the counters. What is
    expected was written down from W-201, W-202, document 01 and the description of samples/good. Runs in the repository's root. */
 #define PROGRAM "link_errors.c"
-#include "linux.h"
+#include "headers.h"
 
 /* Where phy 0 has its counters in the state, and a body the reported ones. */
 enum { HELD = ASCHEKNOPF_PHY(0) + ASCHEKNOPF_PHY_COUNTERS, SHOWN = 4, COUNTERS = 16 };
@@ -16,28 +16,13 @@ static const uint32_t CODES[3][2][4] = {
     {{4, 3, 3, 3}, {4, 3, 3, 3}},
 };
 
-static uint32_t handled_linux(const struct asked *a)
-{
-    ask(a, 0);
-    return handled();
-}
-
-/* What goes by the header. */
-struct header {
-    const char *what;
-    size_t size, code;
-    uint32_t (*handled)(const struct asked *a);
-};
-
-static const struct header FIRST_HEADER = {"the first header", FIRST, FIRST_CODE, handled_first};
-static const struct header LINUX_HEADER = {"the Linux header", LINUX, LINUX_CODE, handled_linux};
-
 /* The return code is this one. With 0 the counters that the phy had are shown, and cleared by reset byte 1; else all bytes stay. */
 static int answered_with(const struct header *h, uint8_t phy, uint8_t reset, uint32_t code)
 {
     struct asked a = GRANTED[LINK_ERRORS];
     a.begin[0] = phy, a.begin[1] = reset;
-    uint32_t number = h->handled(&a);
+    ask_under(h, &a, 0);
+    uint32_t number = handled_under(h);
     struct lent expected = before;
     put_word(expected.buffer + h->code, code);
     if (code == 0)

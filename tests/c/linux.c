@@ -86,11 +86,13 @@ static void state_is_refused(const char *what, const struct lent *refused)
 
 static void states(int level)
 {
-    const size_t places[6] = {ASCHEKNOPF_LEVEL, ASCHEKNOPF_PHY_COUNT, ASCHEKNOPF_PHY(1) + 20, ASCHEKNOPF_PHY(2) + ASCHEKNOPF_PHY_FIXED,
-                              ASCHEKNOPF_PHY(31) + ASCHEKNOPF_PHY_SIZE - 1, ASCHEKNOPF_ROW(63) + ASCHEKNOPF_ROW_LUN};
-    const size_t lengths[6] = {0, 1, 3, 4096, ASCHEKNOPF_STATE_SIZE - 1, ASCHEKNOPF_STATE_SIZE + 1};
+    const size_t places[8] = {ASCHEKNOPF_LEVEL, ASCHEKNOPF_PHY_COUNT, ASCHEKNOPF_PHY(1) + 20, ASCHEKNOPF_PHY(2) + ASCHEKNOPF_PHY_FIXED,
+                              ASCHEKNOPF_PHY(31) + ASCHEKNOPF_PHY_SIZE - 1, ASCHEKNOPF_ROW(63) + ASCHEKNOPF_ROW_LUN,
+                              ASCHEKNOPF_CONNECTOR(3) + ASCHEKNOPF_CONNECTOR_PINOUT, ASCHEKNOPF_STATE_SIZE - 1};
+    const size_t lengths[8] = {0, 1, 3, 4096, ASCHEKNOPF_CONTROLLER, ASCHEKNOPF_STATUS, ASCHEKNOPF_STATE_SIZE - 1,
+                               ASCHEKNOPF_STATE_SIZE + 1};
     open_sample("good", level);
-    for (int i = 0; i < 6; i++) {
+    for (int i = 0; i < 8; i++) {
         struct lent broken = sound, other = sound;
         broken.state[places[i]] = 0x77;
         state_is_refused("a broken rule", &broken);

@@ -5,13 +5,13 @@
 #include "ascheknopf.h"
 #include "check.h"
 
-enum { PHYS = 4, FILE_SIZE = 6 * 512, DISK = 8192, SECTOR = 512, LINE = 8, LONG = 100000 };
+enum { PHYS = 4, FILE_SIZE = 11 * 512, DISK = 8192, SECTOR = 512, LINE = 8, LONG = 100000 };
 
 static const char RESTRICTED[] = "CSMI=Restricted;", FULL[] = "CSMI=Full;";
 static const uint32_t NONE = ASCHEKNOPF_NO_CODE;
 
 static struct run {
-    uint8_t file[FILE_SIZE], medium[PHYS * DISK], session[4 + LONG], record[20 * LINE];
+    uint8_t file[FILE_SIZE], medium[PHYS * DISK], session[4 + LONG], record[24 * LINE];
     size_t file_len, medium_len, session_len, record_len;
 } run, before;
 

@@ -1,9 +1,10 @@
-/* The samples and damaged input through ascheknopf_run. What is expected was written down from document 01, W-202 and the samples'
-   descriptions, the return codes by section 10 of 001. Runs in the repository's root. */
+/* The samples and damaged input through ascheknopf_run. What is expected was written down from document 01, W-202, W-204 and the
+   samples' descriptions, the return codes by section 10 of 001. Runs in the repository's root. */
 #define PROGRAM "session.c"
 #include "run.h"
 
-enum { HEADER = 28 };
+/* The requests of samples/good, and of samples/writes. */
+enum { HEADER = 28, GOOD = 15, WRITES = 12 };
 
 /* The number that an opening by call has, which the run's opening is to have too. */
 static uint32_t opened(const char *text)
@@ -54,25 +55,40 @@ static void sample(const char *name, const char *text, size_t count, const uint3
     check("sample: the other sectors", all(run.medium, 3 * SECTOR, 0) && all(run.medium + 4 * SECTOR, sizeof run.medium - 4 * SECTOR, 0));
 }
 
-/* The replies of samples/good. */
+/* The first replies of samples/good: configuration, status and connectors. */
+static void front_page(void)
+{
+    const uint8_t revisions[16] = {1, 0, 26, 0, 0, 0, 0, 0, 6, 0, 14};
+    int same = 1;
+    check("controller", word(body(1) + 12) == 0x30201000 && body(1)[16] == 3 && memcmp(body(1) + 52, "CL-0007423", 11) == 0
+                        && memcmp(body(1) + 133, revisions, 16) == 0);
+    check("status", word(body(2)) == 1 && all(body(2) + 4, 32, 0));
+    for (int n = 0; n < PHYS; n++) {
+        const uint8_t *connector = body(3) + 36 * n;
+        same = same && word(connector) == 0x10000u << n && memcmp(connector + 4, "J1", 3) == 0 && connector[20] == 2;
+    }
+    check("connectors", same && all(body(3) + 36 * PHYS, 36 * (32 - PHYS), 0));
+}
+
+/* Those behind them. */
 static void replies(void)
 {
     const uint8_t address[16] = {0x50, 0x00, 0xC5, 0, 0, 0, 0, 2}, os[4] = {0, 0, 1, 0}, phys[4] = {4, 0, 0, 0};
-    check("driver info", memcmp(body(1), "csmilab", 8) == 0 && body(1)[162] == 1 && body(1)[164] == 4 && body(1)[172] == 81);
-    check("phy info", memcmp(body(2), phys, 4) == 0 && all(body(2) + 4 + 64 * PHYS, 64 * (32 - PHYS), 0));
-    check("negotiated rates", body(2)[33] == 9 && body(2)[97] == 8 && body(2)[161] == 9 && body(2)[225] == 0);
-    check("link errors", word(body(3) + 4) == 3 && word(body(3) + 8) == 0 && word(body(3) + 12) == 1 && word(body(3) + 16) == 0);
-    check("SCSI address", memcmp(body(7) + 16, os, 4) == 0);
-    check("device address", memcmp(body(8) + 4, address, 16) == 0);
-    check("identify", status_is(body(9), 0, 512) && body(9)[136 + 99] == 0x02 && body(9)[136 + 120] == 16);
-    check("power mode", status_is(body(12), 0xFF, 0));
+    check("driver info", memcmp(body(4), "csmilab", 8) == 0 && body(4)[162] == 1 && body(4)[164] == 4 && body(4)[172] == 81);
+    check("phy info", memcmp(body(5), phys, 4) == 0 && all(body(5) + 4 + 64 * PHYS, 64 * (32 - PHYS), 0));
+    check("negotiated rates", body(5)[33] == 9 && body(5)[97] == 8 && body(5)[161] == 9 && body(5)[225] == 0);
+    check("link errors", word(body(6) + 4) == 3 && word(body(6) + 8) == 0 && word(body(6) + 12) == 1 && word(body(6) + 16) == 0);
+    check("SCSI address", memcmp(body(10) + 16, os, 4) == 0);
+    check("device address", memcmp(body(11) + 4, address, 16) == 0);
+    check("identify", status_is(body(12), 0, 512) && body(12)[136 + 99] == 0x02 && body(12)[136 + 120] == 16);
+    check("power mode", status_is(body(15), 0xFF, 0));
 }
 
 /* An opening that is refused: its number, 107 for each request, and all bytes but the record's lines stay. */
 static void refused(const char *what, const char *text, uint32_t number)
 {
-    int same = opened(text) == number && handled(text) == 12 && session_stays(0);
-    for (size_t n = 1; n <= 12; n++)
+    int same = opened(text) == number && handled(text) == GOOD && session_stays(0);
+    for (size_t n = 1; n <= GOOD; n++)
         same = same && line_is(n, 107, NONE);
     check(what, same && all(run.medium, sizeof run.medium, 0));
 }
@@ -96,14 +112,14 @@ static void damaged_sessions(void)
 {
     start("good");
     run.session_len--;
-    check("a cut request", handled(FULL) == 11 && session_stays(place(12)));
+    check("a cut request", handled(FULL) == GOOD - 1 && session_stays(place(GOOD)));
     run.session_len = 3;
     check("a cut length", handled(FULL) == 0);
-    /* The driver info of the sample in a longer buffer. */
+    /* The controller's configuration in a longer buffer. */
     start("good");
     run.session_len = 4 + 32769;
     memcpy(run.session, "\x01\x80\0\0", 4);
-    check("a request of 32,769 bytes", handled(FULL) == 1 && line_is(1, 0, 0) && memcmp(body(1), "csmilab", 8) == 0);
+    check("a request of 32,769 bytes", handled(FULL) == 1 && line_is(1, 0, 0) && memcmp(body(1) + 52, "CL-", 3) == 0);
     run.session[0] = 2;
     check("a request of 32,770 bytes, one missing", handled(FULL) == 0 && session_stays(0));
     run.session_len = 4 + LONG;
@@ -128,27 +144,28 @@ static void null_pointers(void)
                                          NULL, 0) == 0);
     check("null: nothing is written", all(run.record, sizeof run.record, 0x5A) && all(run.medium, sizeof run.medium, 0));
     check("null: file", ascheknopf_run(text, 10, NULL, 0, run.medium, run.medium_len, run.session, run.session_len,
-                                       run.record, run.record_len) == 12 && line_is(1, 107, NONE) && line_is(12, 107, NONE));
+                                       run.record, run.record_len) == GOOD && line_is(1, 107, NONE) && line_is(GOOD, 107, NONE));
     check("null: medium", ascheknopf_run(text, 10, run.file, run.file_len, NULL, 0, run.session, run.session_len,
-                                         run.record, run.record_len) == 12 && line_is(1, 107, NONE) && line_is(12, 107, NONE));
+                                         run.record, run.record_len) == GOOD && line_is(1, 107, NONE) && line_is(GOOD, 107, NONE));
     check("null: text", ascheknopf_run(NULL, 0, run.file, run.file_len, run.medium, run.medium_len, run.session, run.session_len,
-                                       run.record, run.record_len) == 12 && line_is(1, 0, 0) && line_is(12, 0, 0));
+                                       run.record, run.record_len) == GOOD && line_is(1, 0, 0) && line_is(GOOD, 0, 0));
 }
 
 int main(void)
 {
-    const uint32_t good[12] = {0};
-    const uint32_t low[12] = {0, 0, 4, 4, 0, 0, 4, 4, 0, 4, 2002, 4};
-    const uint32_t high[12] = {0, 0, 0, 0, 0, 2008, 0, 0, 2008, 2002, 2002, 0};
+    const uint32_t good[GOOD] = {0};
+    const uint32_t low[WRITES] = {0, 0, 4, 4, 0, 0, 4, 4, 0, 4, 2002, 4};
+    const uint32_t high[WRITES] = {0, 0, 0, 0, 0, 2008, 0, 0, 2008, 2002, 2002, 0};
     /* Document 01's example is in it: a sound code 1, a 5-byte buffer, and as the fifth a sound code 21. */
     const uint32_t refusals[16] = {0, NONE, 2, 3, 4, 4, 4, 2002, 2003, 2005, 2006, 2008, 2009, 2010, 2013, 2014};
 
-    sample("good", RESTRICTED, 12, good, 0);
+    sample("good", RESTRICTED, GOOD, good, 0);
+    front_page();
     replies();
-    sample("writes", RESTRICTED, 12, low, 0);
+    sample("writes", RESTRICTED, WRITES, low, 0);
     check("a read after a denied write", status_is(body(5), 1, SECTOR) && all(body(5) + 136, SECTOR, 0));
     check("a denied reset of counters", all(body(12) + 4, 16, 0));
-    sample("writes", FULL, 12, high, 0x5A);
+    sample("writes", FULL, WRITES, high, 0x5A);
     check("a read after a write", status_is(body(5), 1, SECTOR) && all(body(5) + 136, SECTOR, 0x5A));
     check("a reset of counters", word(body(12) + 4) == 3 && word(body(12) + 12) == 1);
     sample("refusals", RESTRICTED, 16, refusals, 0);

@@ -18,6 +18,8 @@ pub enum Kind {
     Mixed,
     /// The same under the Linux header.
     MixedLinux,
+    /// What a console begins with, codes 1, 2, 3, 20 and 30 in turn.
+    FrontPage,
     /// Passthrough requests of every command code in turn, at level None: all are denied, once the need of the command is known.
     Needs,
 }
@@ -32,7 +34,7 @@ impl Kind {
     }
 }
 
-pub const SESSIONS: [(&str, Kind); 14] = [
+pub const SESSIONS: [(&str, Kind); 15] = [
     ("opening", Kind::Opening),
     ("driver-info", Kind::Code(code::DRIVER_INFO)),
     ("phy-info", Kind::Code(code::PHY_INFO)),
@@ -46,11 +48,21 @@ pub const SESSIONS: [(&str, Kind); 14] = [
     ("device-address", Kind::Code(code::DEVICE_ADDRESS)),
     ("mixed", Kind::Mixed),
     ("mixed-linux", Kind::MixedLinux),
+    ("front-page", Kind::FrontPage),
     ("needs", Kind::Needs),
 ];
 
 /// Those of one code or command, of which a mixed session is made.
 const SINGLE: std::ops::RangeInclusive<usize> = 1..=10;
+
+/// The codes of a front page.
+const FRONT_PAGE: [u32; 5] = [
+    code::DRIVER_INFO,
+    code::CNTLR_CONFIG,
+    code::CNTLR_STATUS,
+    code::PHY_INFO,
+    code::CONNECTOR_INFO,
+];
 
 /// The counts p and a that are measured.
 pub const SIZES: [(usize, usize); 4] = [(7, 0), (7, 64), (32, 0), (32, 64)];
@@ -109,6 +121,7 @@ fn request(random: &mut Random, adapter: &Adapter, kind: Kind, at: usize) -> Req
             let first = request(random, adapter, Kind::Mixed, at);
             linux::of_body(first.control(), first.body())
         }
+        Kind::FrontPage => first::sound(random, adapter, FRONT_PAGE[at % FRONT_PAGE.len()]),
         Kind::Needs => passthrough(random, adapter, at as u8),
     }
 }

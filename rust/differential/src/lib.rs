@@ -12,6 +12,7 @@ pub mod names;
 pub mod need;
 pub mod pair;
 pub mod random;
+pub mod reads_only;
 pub mod request;
 pub mod run;
 pub mod sameness;

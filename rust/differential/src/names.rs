@@ -1,11 +1,13 @@
 //! Numbers and offsets: the model's, the library's prefixes and lines of a session, and what the comparison has besides.
 
 pub use library::{prefix, record};
-pub use model::codes::{ata, device, direction, fis_type, link_error, rate, status, NOT_GIVEN};
+pub use model::codes::{
+    ata, device, direction, fis_type, link_error, pinout, rate, status, NOT_GIVEN,
+};
 pub use model::layout::{
-    device_address, file, fis, header, link_errors, linux_header, phy_info, row, sata_signature,
-    scsi_address, set_phy_info, state, stp, DISK, DRIVER_INFO, ENTITY, MAX_PHYS, MAX_ROWS, SECTOR,
-    SECTORS,
+    connector, connector_info, device_address, file, fis, header, link_errors, linux_header,
+    phy_info, row, sata_signature, scsi_address, set_phy_info, state, stp, CONTROLLER_CONFIG,
+    CONTROLLER_STATUS, DISK, DRIVER_INFO, ENTITY, MAX_PHYS, MAX_ROWS, SECTOR, SECTORS,
 };
 
 /// The call's numbers.
@@ -28,8 +30,10 @@ pub mod call {
 /// Control codes.
 pub mod code {
     pub use model::codes::control::*;
-    pub const ALL: [u32; 8] = [
+    pub const ALL: [u32; 11] = [
         DRIVER_INFO,
+        CNTLR_CONFIG,
+        CNTLR_STATUS,
         PHY_INFO,
         SET_PHY_INFO,
         LINK_ERRORS,
@@ -37,7 +41,11 @@ pub mod code {
         SATA_SIGNATURE,
         SCSI_ADDRESS,
         DEVICE_ADDRESS,
+        CONNECTOR_INFO,
     ];
+
+    /// Those of a console's front page, which show a table each (W-204).
+    pub const FRONT_PAGE: [u32; 3] = [CNTLR_CONFIG, CNTLR_STATUS, CONNECTOR_INFO];
 }
 
 /// A phy's bytes, its entity's first.
@@ -54,10 +62,9 @@ pub const CSMI_SAS: [u8; 8] = *b"CSMISAS\0";
 
 /// The signature of a code's header.
 pub fn signature(control: u32) -> [u8; 8] {
-    if control == code::DRIVER_INFO {
-        CSMI_ALL
-    } else {
-        CSMI_SAS
+    match control {
+        code::DRIVER_INFO | code::CNTLR_CONFIG | code::CNTLR_STATUS => CSMI_ALL,
+        _ => CSMI_SAS,
     }
 }
 
@@ -65,6 +72,8 @@ pub fn signature(control: u32) -> [u8; 8] {
 pub fn body_size(control: u32) -> Option<usize> {
     match control {
         code::DRIVER_INFO => Some(DRIVER_INFO),
+        code::CNTLR_CONFIG => Some(CONTROLLER_CONFIG),
+        code::CNTLR_STATUS => Some(CONTROLLER_STATUS),
         code::PHY_INFO => Some(phy_info::SIZE),
         code::SET_PHY_INFO => Some(set_phy_info::SIZE),
         code::LINK_ERRORS => Some(link_errors::SIZE),
@@ -72,6 +81,7 @@ pub fn body_size(control: u32) -> Option<usize> {
         code::SATA_SIGNATURE => Some(sata_signature::SIZE),
         code::SCSI_ADDRESS => Some(scsi_address::SIZE),
         code::DEVICE_ADDRESS => Some(device_address::SIZE),
+        code::CONNECTOR_INFO => Some(connector_info::SIZE),
         _ => None,
     }
 }

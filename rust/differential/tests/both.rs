@@ -23,8 +23,8 @@ fn in_turn(seed: u64, count: usize) -> Case {
     let adapter = Adapter::of_counts(random, 3, 4);
     let requests: Vec<Request> = (0..count)
         .map(|n| match n % 2 {
-            0 => linux::sound(random, &adapter, code::ALL[n % 8]),
-            _ => first::sound(random, &adapter, code::ALL[n % 8]),
+            0 => linux::sound(random, &adapter, code::ALL[n % code::ALL.len()]),
+            _ => first::sound(random, &adapter, code::ALL[n % code::ALL.len()]),
         })
         .collect();
     let medium = random.bytes(adapter.medium_length());

@@ -2,7 +2,7 @@
 
 use differential::adapter::damage::{self, Damage};
 use differential::adapter::form::Form;
-use differential::adapter::{seal, Adapter};
+use differential::adapter::{connector_at, seal, Adapter};
 use differential::generate;
 use differential::names::file::{BLOCK, CHECK, PHY_COUNT, ROW_COUNT};
 use differential::names::{call, file, phy, row, state, DISK};
@@ -169,6 +169,7 @@ fn checks_come_before_fields_and_fields_before_rows() {
         let medium = vec![0; adapter.medium_length()];
         let mut file = adapter.file();
         let (last_phy, first, second) = (file::phy_at(2), 4 * BLOCK, 5 * BLOCK);
+        let connector = connector_at(3, 30, 2);
         file.copy_within(first..first + row::OS, second);
         seal(&mut file);
         assert_number("rows", call::SHARED_ROW, b"", &file, &medium);
@@ -182,6 +183,10 @@ fn checks_come_before_fields_and_fields_before_rows() {
             &medium,
         );
         file[UNNAMED] = 0;
+        file[connector + 3] = 0x80;
+        seal(&mut file);
+        assert_number("pinout and rows", call::COUNT_OR_FIELD, b"", &file, &medium);
+        file[connector + 3] = 0;
         file[last_phy + phy::FIXED] = 2;
         seal(&mut file);
         assert_number("field and rows", call::COUNT_OR_FIELD, b"", &file, &medium);

@@ -31,7 +31,13 @@ fn sound_case(seed: u64, level: u8, count: usize) -> Case {
     let random = &mut Random::new(seed);
     let adapter = Adapter::of_counts(random, 4, 5);
     let requests: Vec<Request> = (0..count)
-        .map(|n| first::sound(random, &adapter, names::code::ALL[n % 8]))
+        .map(|n| {
+            first::sound(
+                random,
+                &adapter,
+                names::code::ALL[n % names::code::ALL.len()],
+            )
+        })
         .collect();
     let text = text::of_level(random, level);
     let medium = random.bytes(adapter.medium_length());
@@ -56,7 +62,8 @@ fn every_command(seed: u64, level: u8) -> Case {
 }
 
 /// Over 60,000 requests over thousands of adapters, texts and openings; each number and return code of the documents is met, with each
-/// code that can give it, with the Linux header at each level, of code 22 with each kind of reset byte at each level, and none besides.
+/// code that can give it, with the Linux header at each level, of code 22 with each kind of reset byte at each level, of codes 2, 3 and 30
+/// at each level with both headers, and none besides.
 #[test]
 fn random_runs_agree_and_meet_everything() {
     let mut coverage = Coverage::default();

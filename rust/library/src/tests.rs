@@ -1,5 +1,6 @@
 //! Small inputs whose answers document 01 gives at a glance. Whole adapters are compared in `rust/differential`.
 
+mod front_page;
 mod linux;
 
 use super::*;
@@ -17,16 +18,36 @@ fn opened(text: &[u8]) -> (u32, [u8; STATE_SIZE]) {
     (open(text, &[], &[], &mut state), state)
 }
 
+/// The subsystem ID of the controller, its status, and the connector's pinout and location.
+const BOARD: u32 = 0x3220_0E11;
+const GOOD: u32 = 1;
+const LANE_1: u32 = 0x100;
+const INTERNAL: u8 = 2;
+/// Where the subsystem ID stands in the configuration.
+const BOARD_ID: usize = 12;
+
 /// A file of one phy without device and no rows.
-fn file() -> [u8; 2 * BLOCK] {
-    let mut file = [0; 2 * BLOCK];
-    let (first, second) = file.split_at_mut(BLOCK);
+fn file() -> [u8; 4 * BLOCK] {
+    let mut file = [0; 4 * BLOCK];
+    let [first, second, controller, connector] = file.as_chunks_mut::<BLOCK>().0 else {
+        unreachable!("these are four blocks");
+    };
     first[file::PHY_COUNT] = 1;
     second[entity::MINIMUM..=entity::MAXIMUM].copy_from_slice(&RATES);
+    put(controller, BOARD_ID, BOARD);
+    put(controller, CONTROLLER_SIZE, GOOD);
+    put(connector, CONNECTOR_PINOUT, LANE_1);
+    connector[CONNECTOR_LOCATION] = INTERNAL;
     // each check: the words that are not 0, the block's number, and 1
-    first[CHECK..].copy_from_slice(&(1u32 + 1).to_le_bytes());
-    second[CHECK..].copy_from_slice(&(0x9988_0000u32 + 1 + 1).to_le_bytes());
+    put(first, CHECK, 1 + 1);
+    put(second, CHECK, 0x9988_0000 + 1 + 1);
+    put(controller, CHECK, BOARD + GOOD + 2 + 1);
+    put(connector, CHECK, LANE_1 + u32::from(INTERNAL) + 3 + 1);
     file
+}
+
+fn put(bytes: &mut [u8], at: usize, number: u32) {
+    bytes[at..at + 4].copy_from_slice(&number.to_le_bytes());
 }
 
 /// The file's state at a level.
@@ -34,6 +55,10 @@ fn state(level: u8) -> [u8; STATE_SIZE] {
     let mut state = [0; STATE_SIZE];
     (state[at::LEVEL], state[at::PHY_COUNT]) = (level, 1);
     phy(&mut state)[entity::MINIMUM..=entity::MAXIMUM].copy_from_slice(&RATES);
+    put(&mut state, CONTROLLER + BOARD_ID, BOARD);
+    put(&mut state, STATUS, GOOD);
+    put(&mut state, CONNECTOR + CONNECTOR_PINOUT, LANE_1);
+    state[CONNECTOR + CONNECTOR_LOCATION] = INTERNAL;
     state
 }
 
@@ -61,7 +86,14 @@ fn a_wrong_text_is_101_and_leaves_the_zero_state() {
 
 #[test]
 fn a_state_of_another_length_is_107_and_stays() {
-    for length in [0, 1, STATE_SIZE - 1, STATE_SIZE + 1, 2 * STATE_SIZE] {
+    for length in [
+        0,
+        1,
+        CONTROLLER,
+        STATE_SIZE - 1,
+        STATE_SIZE + 1,
+        2 * STATE_SIZE,
+    ] {
         let mut held = vec![OTHER; length];
         let (mut medium, mut buffer) = ([0; DISK], [OTHER; 40]);
         assert_eq!(open(b"", &file(), &medium, &mut held), 107);

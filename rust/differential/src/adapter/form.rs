@@ -1,6 +1,6 @@
 //! An adapter's two forms in bytes: its file, and a state. The same rules hold of both.
 
-use super::{row_at, Adapter};
+use super::{connector_at, controller_at, row_at, Adapter};
 use crate::names::{file, state};
 
 #[derive(Clone, Copy, PartialEq, Eq, Debug)]
@@ -70,6 +70,22 @@ impl<'a> Held<'a> {
         match self.form {
             Form::File => row_at(self.p(), i),
             Form::State => state::row_at(i),
+        }
+    }
+
+    /// Where the controller's configuration starts, which its status follows.
+    pub fn controller(&self) -> usize {
+        match self.form {
+            Form::File => controller_at(self.p(), self.a()),
+            Form::State => state::CONTROLLER_CONFIG,
+        }
+    }
+
+    /// Where the connector of phy n starts.
+    pub fn connector(&self, n: usize) -> usize {
+        match self.form {
+            Form::File => connector_at(self.p(), self.a(), n),
+            Form::State => state::connector_at(n),
         }
     }
 }

@@ -1,14 +1,20 @@
 //! Adapters, their files and their states. A sound adapter is random wherever document 01 leaves a choice.
 
+pub mod connector;
 pub mod damage;
 pub mod form;
 pub mod phy;
+pub mod places;
 pub mod row;
 
-use crate::names::{file, state, DISK, DRIVER_INFO, MAX_PHYS, MAX_ROWS};
+use crate::names::{
+    file, state, CONTROLLER_CONFIG, CONTROLLER_STATUS, DISK, DRIVER_INFO, MAX_PHYS, MAX_ROWS,
+};
 use crate::random::Random;
-pub use labkit::adapter::{check, file_length, row_at, seal};
+use connector::Connector;
+pub use labkit::adapter::{check, row_at, seal};
 use phy::Phy;
+pub use places::{connector_at, controller_at, file_length};
 use row::Row;
 
 #[derive(Clone)]
@@ -16,6 +22,10 @@ pub struct Adapter {
     driver: [u8; DRIVER_INFO],
     pub phys: Vec<Phy>,
     pub rows: Vec<Row>,
+    pub controller: [u8; CONTROLLER_CONFIG],
+    pub status: [u8; CONTROLLER_STATUS],
+    /// As many as phys.
+    pub connectors: Vec<Connector>,
 }
 
 impl Adapter {
@@ -41,6 +51,9 @@ impl Adapter {
             driver: random.array(),
             phys,
             rows,
+            controller: random.array(),
+            status: random.array(),
+            connectors: (0..p).map(|_| connector::sound(random)).collect(),
         }
     }
 
@@ -50,15 +63,25 @@ impl Adapter {
 
     /// The adapter file, with its checks.
     pub fn file(&self) -> Vec<u8> {
-        let mut bytes = vec![0; file_length(self.phys.len(), self.rows.len())];
-        bytes[file::PHY_COUNT] = self.phys.len() as u8;
-        bytes[file::ROW_COUNT] = self.rows.len() as u8;
-        bytes[file::DRIVER_INFO..file::DRIVER_INFO_END].copy_from_slice(&self.driver);
+        let (p, a) = (self.phys.len(), self.rows.len());
+        let mut bytes = vec![0; file_length(p, a)];
+        (bytes[file::PHY_COUNT], bytes[file::ROW_COUNT]) = (p as u8, a as u8);
+        put(&mut bytes, file::DRIVER_INFO, &self.driver);
         for (n, phy) in self.phys.iter().enumerate() {
             put(&mut bytes, file::phy_at(n), &phy.bytes);
         }
         for (i, row) in self.rows.iter().enumerate() {
-            put(&mut bytes, row_at(self.phys.len(), i), row);
+            put(&mut bytes, row_at(p, i), row);
+        }
+        let block = controller_at(p, a);
+        put(
+            &mut bytes,
+            block + file::CONTROLLER_CONFIG,
+            &self.controller,
+        );
+        put(&mut bytes, block + file::CONTROLLER_STATUS, &self.status);
+        for (n, connector) in self.connectors.iter().enumerate() {
+            put(&mut bytes, connector_at(p, a, n), connector);
         }
         seal(&mut bytes);
         bytes
@@ -70,12 +93,17 @@ impl Adapter {
         bytes[state::LEVEL] = level;
         bytes[state::PHY_COUNT] = self.phys.len() as u8;
         bytes[state::ROW_COUNT] = self.rows.len() as u8;
-        bytes[state::DRIVER_INFO..state::PHYS].copy_from_slice(&self.driver);
+        put(&mut bytes, state::DRIVER_INFO, &self.driver);
         for (n, phy) in self.phys.iter().enumerate() {
             put(&mut bytes, state::phy_at(n), &phy.bytes);
         }
         for (i, row) in self.rows.iter().enumerate() {
             put(&mut bytes, state::row_at(i), row);
+        }
+        put(&mut bytes, state::CONTROLLER_CONFIG, &self.controller);
+        put(&mut bytes, state::CONTROLLER_STATUS, &self.status);
+        for (n, connector) in self.connectors.iter().enumerate() {
+            put(&mut bytes, state::connector_at(n), connector);
         }
         bytes
     }

@@ -1,6 +1,7 @@
 //! How often each number, return code and command was met, with the first header, and with the Linux header at each level; code 22 by its
-//! reset byte too; and which of those that the documents know were not.
+//! reset byte too, and codes 2, 3 and 30 by the level with both; and which of those that the documents know were not.
 
+mod front_page;
 pub mod known;
 pub mod link_errors;
 mod met;
@@ -8,6 +9,7 @@ mod met;
 use crate::case::{Case, Outcome};
 use crate::names::{call, state};
 use crate::request::Header;
+use front_page::FrontPage;
 use known::Kind;
 use link_errors::LinkErrors;
 use met::Met;
@@ -20,6 +22,7 @@ pub struct Coverage {
     openings: BTreeMap<u32, u64>,
     kinds: BTreeMap<Kind, Met>,
     link_errors: LinkErrors,
+    front_page: FrontPage,
 }
 
 impl Coverage {
@@ -39,6 +42,7 @@ impl Coverage {
             };
             self.kinds.entry(kind).or_default().count(&exchange);
             self.link_errors.count(&exchange, state);
+            self.front_page.count(&exchange, state);
         }
     }
 
@@ -60,6 +64,7 @@ impl Coverage {
         openings
             .chain(of_kinds)
             .chain(self.link_errors.missing())
+            .chain(self.front_page.missing())
             .collect()
     }
 
@@ -77,6 +82,7 @@ impl Coverage {
         openings
             .chain(of_kinds)
             .chain(self.link_errors.unknown())
+            .chain(self.front_page.unknown())
             .collect()
     }
 }
@@ -92,7 +98,7 @@ impl fmt::Display for Coverage {
         for (kind, met) in &self.kinds {
             write!(f, "\n{kind:?}\n{met}")?;
         }
-        write!(f, "\n{}", self.link_errors)
+        write!(f, "\n{}\n{}", self.link_errors, self.front_page)
     }
 }
 

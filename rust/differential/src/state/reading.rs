@@ -12,6 +12,8 @@ enum Place {
     /// The phy's number, and the offset in its bytes.
     Phy(usize, usize),
     Row(usize),
+    /// The code that shows it.
+    FrontPage(u32),
 }
 
 fn place(at: usize) -> Place {
@@ -22,14 +24,21 @@ fn place(at: usize) -> Place {
             let in_phys = at - state::PHYS;
             Place::Phy(in_phys / phy::SIZE, in_phys % phy::SIZE)
         }
-        _ => Place::Row((at - state::ROWS) / row::SIZE),
+        state::ROWS..state::CONTROLLER_CONFIG => Place::Row((at - state::ROWS) / row::SIZE),
+        state::CONTROLLER_CONFIG..state::CONTROLLER_STATUS => Place::FrontPage(code::CNTLR_CONFIG),
+        state::CONTROLLER_STATUS..state::CONNECTORS => Place::FrontPage(code::CNTLR_STATUS),
+        _ => Place::FrontPage(code::CONNECTOR_INFO),
     }
 }
 
 /// The requests that read byte `at` of a state, worked out from the state itself.
 pub fn requests(random: &mut Random, state: &[u8], at: usize) -> Vec<Request> {
     match place(at) {
-        Place::Counts => vec![phy_info(), device_address(last_row(state))],
+        Place::Counts => vec![
+            phy_info(),
+            device_address(last_row(state)),
+            front_page(code::CONNECTOR_INFO),
+        ],
         Place::Driver => vec![driver_info()],
         Place::Phy(n, offset) => match offset {
             0..ENTITY => vec![phy_info(), check_power(random, phy_of(state, n), n)],
@@ -41,6 +50,7 @@ pub fn requests(random: &mut Random, state: &[u8], at: usize) -> Vec<Request> {
             scsi_address(row_of(state, i)),
             device_address(row_of(state, i)),
         ],
+        Place::FrontPage(control) => vec![front_page(control)],
     }
 }
 
@@ -70,6 +80,11 @@ pub fn driver_info() -> Request {
 
 pub fn phy_info() -> Request {
     request(code::PHY_INFO, &[])
+}
+
+/// One of codes 2, 3 and 30.
+pub fn front_page(control: u32) -> Request {
+    request(control, &[])
 }
 
 fn link_errors(n: usize) -> Request {

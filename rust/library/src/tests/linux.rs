@@ -78,7 +78,7 @@ fn the_answers_to_a_linux_request_in_their_order() {
 
 #[test]
 fn a_state_of_another_length_is_107_to_a_linux_request() {
-    for length in [0, 1, STATE_SIZE - 1, STATE_SIZE + 1] {
+    for length in [0, 1, CONTROLLER, STATE_SIZE - 1, STATE_SIZE + 1] {
         let mut held = vec![OTHER; length];
         let (mut medium, mut buffer) = ([0; DISK], set_phy_info());
         assert_eq!(request_linux(&mut held, &mut medium, 21, &mut buffer), 107);

@@ -1,11 +1,12 @@
 //! The ways in which damage changes an adapter's bytes. `None` says that the adapter has no place for it.
 
+use crate::adapter::connector::wrong_pinout;
 use crate::adapter::form::Held;
 use crate::adapter::phy::Phy;
 use crate::adapter::{check, file_length};
 use crate::names::file::{BLOCK, CHECK, PHY_COUNT, ROWS_END, ROWS_PER_BLOCK, ROW_COUNT};
 use crate::names::phy::*;
-use crate::names::{device, rate, row, MAX_PHYS, MAX_ROWS};
+use crate::names::{connector, device, rate, row, MAX_PHYS, MAX_ROWS};
 use crate::random::Random;
 use crate::wire::put_word;
 
@@ -152,7 +153,7 @@ pub fn negotiated(random: &mut Random, held: &mut Held) -> Option<()> {
 pub fn past_last_row(random: &mut Random, held: &mut Held) -> Option<()> {
     let last = held.a().checked_sub(1)?;
     let start = held.row(last) + row::SIZE;
-    let end = held.bytes.len() - BLOCK + CHECK;
+    let end = held.controller() - BLOCK + CHECK;
     spoil(random, held, start, end)
 }
 
@@ -170,6 +171,32 @@ pub fn share(random: &mut Random, held: &mut Held, start: usize, end: usize) -> 
     let (one, other) = (random.below(count.max(1)), random.below(count.max(1)));
     let (from, to) = (held.row(one), held.row(other));
     (one != other).then(|| held.bytes.copy_within(from + start..from + end, to + start))
+}
+
+/// A pinout of some connector.
+pub fn pinout(random: &mut Random, held: &mut Held) -> Option<()> {
+    let at = held.connector(random.below(held.p())) + connector::PINOUT;
+    put_word(&mut held.bytes, at, wrong_pinout(random));
+    Some(())
+}
+
+/// A byte past p: at these offsets of some connector from p on.
+pub fn past_connectors(
+    random: &mut Random,
+    held: &mut Held,
+    start: usize,
+    end: usize,
+) -> Option<()> {
+    let n = past(random, held.p(), MAX_PHYS)?;
+    let at = held.connector(n);
+    spoil(random, held, at + start, at + end)
+}
+
+/// A file without one of its blocks, from the one behind the rows on.
+pub fn without_block(random: &mut Random, held: &mut Held) -> Option<()> {
+    let at = held.controller() + BLOCK * random.within(0, held.p());
+    held.bytes.drain(at..at + BLOCK);
+    Some(())
 }
 
 /// A byte past p: at these offsets of some phy from p on.

@@ -2,8 +2,8 @@
 
 use super::breaks::*;
 use super::one::{check, field, length, Damage};
-use crate::names::file::{BLOCK, CHECK, DRIVER_INFO, DRIVER_INFO_END, ROW_COUNT};
-use crate::names::phy;
+use crate::names::file::{BLOCK, CHECK, CONTROLLER_END, DRIVER_INFO, DRIVER_INFO_END, ROW_COUNT};
+use crate::names::{connector, phy};
 
 /// A wrong length, a wrong check, and bytes that are not named.
 pub const FILE: &[Damage] = &[
@@ -21,12 +21,24 @@ pub const FILE: &[Damage] = &[
     length("blocks too many", |r, file| {
         add(file, r.within(1, 5) * BLOCK)
     }),
+    length("the end behind the rows, as before W-204", |_, file| {
+        keep(file, file.controller())
+    }),
+    length("no connectors", |_, file| keep(file, file.connector(0))),
+    length("a block behind the rows left out", without_block),
     length("another phy count", other_phy_count),
     length("another number of row blocks", other_row_count),
     check("block 0's check", |r, file| bump_check(r, file, 0)),
     check("another block's check", |r, file| {
         let block = r.within(1, file.bytes.len() / BLOCK - 1);
         bump_check(r, file, block)
+    }),
+    check("the check of the controller's block", |r, file| {
+        bump_check(r, file, file.controller() / BLOCK)
+    }),
+    check("the check of a connector's block", |r, file| {
+        let at = file.connector(r.below(file.p()));
+        bump_check(r, file, at / BLOCK)
     }),
     check("the check of another block number", check_of_other_number),
     check("a changed byte", |r, file| {
@@ -45,4 +57,12 @@ pub const FILE: &[Damage] = &[
     }),
     field("past the last row", past_last_row),
     field("between row blocks", between_row_blocks),
+    field("after the controller's status", |r, file| {
+        let at = file.controller();
+        spoil(r, file, at + CONTROLLER_END, at + CHECK)
+    }),
+    field("after a connector", |r, file| {
+        let at = file.connector(r.below(file.p()));
+        spoil(r, file, at + connector::SIZE, at + CHECK)
+    }),
 ];

@@ -3,7 +3,7 @@
 use super::breaks::*;
 use super::one::{of_state, Damage};
 use crate::names::phy::*;
-use crate::names::{row, state, ENTITY, MAX_PHYS, MAX_ROWS};
+use crate::names::{connector, row, state, ENTITY, MAX_PHYS, MAX_ROWS};
 
 /// A level over 3, bytes past p and a, and counts that are not those of its phys and rows.
 pub const STATE: &[Damage] = &[
@@ -12,6 +12,7 @@ pub const STATE: &[Damage] = &[
     }),
     of_state("no phys, and nothing past them", |_, held| {
         held.bytes[state::PHYS..state::ROWS].fill(0);
+        held.bytes[state::CONNECTORS..].fill(0);
         set(held, state::PHY_COUNT, 0)
     }),
     of_state("33 phys, where 32 are there", |r, held| {
@@ -68,5 +69,17 @@ pub const STATE: &[Damage] = &[
     }),
     of_state("OS bytes past a", |r, held| {
         past_rows(r, held, row::OS, row::SIZE)
+    }),
+    of_state("pinout past p", |r, held| {
+        past_connectors(r, held, connector::PINOUT, connector::PINOUT + 4)
+    }),
+    of_state("the rest of a connector past p", |r, held| {
+        past_connectors(r, held, connector::PINOUT + 4, connector::SIZE)
+    }),
+    of_state("a connector past p", |_, held| {
+        let p = held.p();
+        let (from, to) = (held.connector(p - 1), held.connector(p));
+        let zero = held.bytes[from..to] == [0; connector::SIZE];
+        (p < MAX_PHYS && !zero).then(|| held.bytes.copy_within(from..to, to))
     }),
 ];

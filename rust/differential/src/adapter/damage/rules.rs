@@ -111,6 +111,7 @@ pub const RULES: &[Damage] = &[
         spoil(r, held, at + SIGNATURE, at + HELD)
     }),
     field("negotiated rate", negotiated),
+    field("pinout", pinout),
     shared("shared SAS address and LUN", |r, held| {
         share(r, held, 0, row::OS)
     }),

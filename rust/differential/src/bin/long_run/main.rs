@@ -1,7 +1,7 @@
 //! `long_run [REQUESTS] [SEED]`: random cases through both implementations, by the runs and by the calls, until so many requests were
-//! handled (a million if not said), with the properties of whole runs and of the two headers; then states that a caller made, every
-//! single-byte damage of a small file, and every single byte of two states altered. Prints the figures; the exit status is 1 if anything
-//! differed.
+//! handled (a million if not said), with the properties of whole runs, of the two headers and of requests that read; then states that a
+//! caller made, every single-byte damage of a small file, and every single byte of two states altered. Prints the figures; the exit status
+//! is 1 if anything differed.
 
 mod runs;
 
@@ -95,6 +95,7 @@ impl Compared {
             if round % PROPERTIES == 0 {
                 runs.properties(seed, framing);
                 runs.sameness(seed);
+                runs.reads_only(seed);
             }
             round += 1;
         }
@@ -104,10 +105,11 @@ impl Compared {
         }
         println!(
             "{} requests in {round} cases, each by the run and by the calls; two runs and last writers of {} lists more; \
-             {} bodies behind both headers; {}",
+             {} bodies behind both headers; {} requests that read; {}",
             runs.coverage.requests,
             runs.properties,
             runs.twins,
+            runs.reading,
             seconds(start)
         );
         println!("{}", runs.coverage);

@@ -8,18 +8,20 @@ use differential::random::Random;
 use differential::session::Framing;
 use differential::side::{CALLS, SIDES};
 use differential::two_runs::{check, check_denied, check_each, check_read_only, Level, Start};
-use differential::{generate, last_writer, sameness, text};
+use differential::{generate, last_writer, reads_only, sameness, text};
 
-/// The most requests of a case, the requests of a list, the bodies behind both headers.
+/// The most requests of a case, the requests of a list, the bodies behind both headers, the requests that read.
 const CASE: usize = 120;
 const LIST: usize = 80;
 const TWINS: usize = 40;
+const READING: usize = 40;
 
 #[derive(Default)]
 pub struct Runs {
     pub coverage: Coverage,
     pub properties: u64,
     pub twins: u64,
+    pub reading: u64,
     pub faults: Vec<String>,
 }
 
@@ -78,6 +80,15 @@ impl Runs {
         for side in CALLS {
             let same = sameness::walk(side, seed, TWINS, |_| ());
             self.note(&format!("seed {seed}, {side:?}, both headers"), same);
+        }
+    }
+
+    /// Requests that read.
+    pub fn reads_only(&mut self, seed: u64) {
+        self.reading += READING as u64;
+        for side in CALLS {
+            let left = reads_only::walk(side, seed, READING, |_| ());
+            self.note(&format!("seed {seed}, {side:?}, reads only"), left);
         }
     }
 

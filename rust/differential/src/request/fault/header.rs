@@ -5,27 +5,30 @@ use crate::random::Random;
 use crate::request::linux::put_direction;
 use crate::wire::put_word;
 
-/// Codes that document 01 calls unknown, some of them known to 001; the last three are Linux's own numbers of codes that are known.
-const UNKNOWN: [u32; 19] = [
+/// Codes that document 01 calls unknown, some of them known to 001; the last five are Linux's own numbers of codes that are known.
+const UNKNOWN: [u32; 22] = [
     0,
-    2,
-    3,
     4,
     5,
     19,
     23,
     24,
     29,
-    30,
+    31,
     60,
     257,
+    258,
+    259,
+    286,
     0x0100_0001,
     0x1900_0000,
     0x8000_0019,
     u32::MAX,
     0xCC77_0001,
+    0xCC77_0002,
     0xCC77_0015,
     0xCC77_0019,
+    0xCC77_0024,
 ];
 
 /// HeaderLength, the control code or the signature.
