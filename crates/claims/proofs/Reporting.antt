@@ -8,7 +8,7 @@ use lib.Dec.{eqb}
 use lib.ListN.{length, getD}
 use borrow.Author.Tests.{eq-eqb, ne-eqb}
 use Rattle.laws.specs.Choice.{by-bool}
-use Rattle.codes.specs.Codes.{setPhyInfo, getLinkErrors, stpPassthru, success, resetPlace, linkErrorResetCounts}
+use Rattle.codes.specs.Codes.{getLinkErrors, success, resetPlace, linkErrorResetCounts}
 use Rattle.level.specs.Need.{among}
 use Rattle.phy.specs.Change.{cleared}
 use Rattle.adapter.specs.Adapter.{Adapter, phyIn, withPhy}

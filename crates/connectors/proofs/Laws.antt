@@ -1,7 +1,7 @@
 -- What the bytes say of the connectors: laws for the layers above, which open no definition of Connector.antt. Assumes nothing.
 use mathlib.Core.Path.{_≡_, refl, sym, _∙_, ap}
 use mathlib.Core.Bool.{Bool, true, _&&_}
-use mathlib.Core.List.{List, [], _++_}
+use mathlib.Core.List.{List, []}
 use Prim.Native.Nat.{ℕ, zero, suc, _+_, _-_, _*_, _/_, _%_, _<_, _≤_}
 use native.Mathlib.Nat.{mul-suc, add-zero, zero-add}
 use native.Mathlib.Omega.{arith}
@@ -10,9 +10,9 @@ use lib.ListN.{length, getD, replicate}
 use lib.Seq.{ext-getD}
 use Rattle.laws.specs.All.{all-by}
 use Rattle.laws.specs.Clear.{zeros}
-use Rattle.laws.specs.Fill.{listTo, getD-listTo, length-listTo, padded-none, filled-as}
+use Rattle.laws.specs.Fill.{getD-listTo, padded-none, filled-as}
 use Rattle.laws.specs.Flat.{flatTo}
-use Rattle.laws.specs.Splice.{part, length-part, getD-part, part-add, part-replicate}
+use Rattle.laws.specs.Splice.{part, getD-part, part-add, part-replicate}
 use Rattle.wire.specs.Same.{allZero}
 use Rattle.wire.proofs.SameLaws.{same-refl}
 use Rattle.wire.proofs.ZeroLaws.{zero-run}

@@ -1,14 +1,14 @@
 -- What the code of 30 leaves in the body. Assumes nothing.
 use mathlib.Core.Path.{_≡_, refl, sym, _∙_, ap}
 use mathlib.Core.List.{List}
-use Prim.Native.Nat.{ℕ, _+_, _-_, _*_, _≤_}
-use native.Mathlib.Nat.{zero-add, add-zero}
+use Prim.Native.Nat.{ℕ, _-_, _*_, _≤_}
+use native.Mathlib.Nat.{add-zero}
 use native.Mathlib.Omega.{arith}
 use lib.ListN.{length}
 use Rattle.laws.specs.Clear.{zeros}
 use Rattle.laws.specs.Flat.{flatTo, pieces}
 use Rattle.laws.specs.Splice.{part, splice, splice-next, length-part, part-part}
-use Rattle.connectors.specs.Connector.{connectorsSize, connectorsOf, connectorAt}
+use Rattle.connectors.specs.Connector.{connectorsSize, connectorAt}
 use Rattle.connectors.proofs.Laws.{connectors-flat}
 use Rattle.tables.specs.Tables.{tablesSize, connectorsStart, tablesOf}
 use Rattle.tables.proofs.Laws.{connectors-in}

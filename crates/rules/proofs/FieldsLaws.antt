@@ -2,10 +2,8 @@
 use mathlib.Core.Path.{_≡_}
 use mathlib.Core.Bool.{Bool, _&&_}
 use Prim.Native.Nat.{ℕ}
-use Rattle.laws.specs.All.{allTo}
-use Rattle.fields.specs.Rules.{fieldsHold}
 use Rattle.connectors.specs.Connector.{pinoutsHold}
-use Rattle.adapter.specs.Adapter.{Adapter, phyIn, fieldsAll}
+use Rattle.adapter.specs.Adapter.{Adapter, fieldsAll}
 use Rattle.rules.specs.Fields.{fieldsTo}
 
 -- where p is the adapter's own
