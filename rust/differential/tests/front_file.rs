@@ -4,7 +4,7 @@
 use differential::adapter::connector::bits_of;
 use differential::adapter::{connector_at, controller_at, file_length, seal, Adapter};
 use differential::names::file::{BLOCK, CHECK, CONTROLLER_END};
-use differential::names::{call, code, connector, pinout, row, state, status, MAX_PHYS};
+use differential::names::{call, code, connector, row, state, status, MAX_PHYS};
 use differential::pair::Pair;
 use differential::random::Random;
 use differential::request::{linux, Request};
@@ -71,6 +71,9 @@ impl Opened {
     }
 }
 
+/// Section 10's pinout constants together.
+const PINOUTS: u32 = 0x000F_0F03;
+
 const SIZES: [(usize, usize); 4] = [(1, 0), (2, 3), (3, 26), (5, 64)];
 
 #[test]
@@ -115,12 +118,12 @@ fn every_bit_of_a_pinout_in_a_file() {
         let opened = Opened::of(random, p, a);
         for (n, bit) in (0..p).flat_map(|n| bits_of(u32::MAX).into_iter().map(move |bit| (n, bit)))
         {
-            for others in [0, pinout::ALL] {
+            for others in [0, PINOUTS] {
                 let (mut file, mut state) = (opened.file.clone(), opened.state.clone());
                 put_word(&mut file, connector_at(p, a, n), bit | others);
                 put_word(&mut state, state::connector_at(n), bit | others);
                 seal(&mut file);
-                let number = if pinout::ALL & bit != 0 {
+                let number = if PINOUTS & bit != 0 {
                     call::DONE
                 } else {
                     call::COUNT_OR_FIELD
@@ -166,10 +169,10 @@ fn every_bit_of_a_pinout_in_a_state() {
         for (n, bit) in
             (0..MAX_PHYS).flat_map(|n| bits_of(u32::MAX).into_iter().map(move |bit| (n, bit)))
         {
-            for others in [0, pinout::ALL] {
+            for others in [0, PINOUTS] {
                 let mut state = adapter.state(RESTRICTED);
                 put_word(&mut state, state::connector_at(n), bit | others);
-                let number = if n < p && pinout::ALL & bit != 0 {
+                let number = if n < p && PINOUTS & bit != 0 {
                     call::DONE
                 } else {
                     call::STATE
@@ -238,7 +241,7 @@ fn a_pinout_comes_after_the_checks_and_before_the_rows() {
         file.copy_within(rows..rows + row::OS, rows + row::SIZE);
         seal(&mut file);
         opens("rows", &file, short, call::SHARED_ROW, &[]);
-        let wrong = random.pick(&bits_of(!pinout::ALL));
+        let wrong = random.pick(&bits_of(!PINOUTS));
         put_word(&mut file, connector_at(3, 9, random.below(3)), wrong);
         seal(&mut file);
         opens("pinout", &file, short, call::COUNT_OR_FIELD, &[]);
