@@ -60,11 +60,31 @@ extern "C" {
 #define ASCHEKNOPF_ROW_TARGET 18
 #define ASCHEKNOPF_ROW_LUN 19
 
-/* The controller. Its structures are packed, so that the firmware revisions of the first begin at its byte 133. */
-#define ASCHEKNOPF_CONTROLLER 4785 /* the Configuration of code 2 (6.2.4.3) */
+/* The controller's Configuration of code 2 (6.2.4.3). It is packed; a structure compiled under pack(8) has other places from the firmware
+   revisions on, and 180 bytes. The offsets below are in its bytes, and so in the body of a reply; revisions are four numbers of 16 bits:
+   major, minor, build, release. */
+#define ASCHEKNOPF_CONTROLLER 4785
 #define ASCHEKNOPF_CONTROLLER_SIZE 176
-#define ASCHEKNOPF_STATUS 4961 /* the Status of code 3 (6.3.4.1) */
+#define ASCHEKNOPF_CONTROLLER_BASE_IO 0          /* 4 bytes */
+#define ASCHEKNOPF_CONTROLLER_BASE_MEMORY 4      /* 4 bytes the low half, 4 the high */
+#define ASCHEKNOPF_CONTROLLER_BOARD 12           /* 4 bytes */
+#define ASCHEKNOPF_CONTROLLER_SLOT 16            /* 2 bytes */
+#define ASCHEKNOPF_CONTROLLER_CLASS 18
+#define ASCHEKNOPF_CONTROLLER_BUS_TYPE 19
+#define ASCHEKNOPF_CONTROLLER_BUS_ADDRESS 20     /* 32 bytes */
+#define ASCHEKNOPF_CONTROLLER_SERIAL 52          /* 81 bytes */
+#define ASCHEKNOPF_CONTROLLER_FIRMWARE 133       /* revisions */
+#define ASCHEKNOPF_CONTROLLER_BIOS 141           /* revisions */
+#define ASCHEKNOPF_CONTROLLER_FLAGS 149          /* 4 bytes */
+#define ASCHEKNOPF_CONTROLLER_RROM_FIRMWARE 153  /* revisions, of the redundant ROM */
+#define ASCHEKNOPF_CONTROLLER_RROM_BIOS 161      /* revisions */
+#define ASCHEKNOPF_CONTROLLER_RESERVED 169       /* 7 bytes */
+
+/* Its Status of code 3 (6.3.4.1); the last 28 bytes are reserved. */
+#define ASCHEKNOPF_STATUS 4961
 #define ASCHEKNOPF_STATUS_SIZE 36
+#define ASCHEKNOPF_STATUS_STATUS 0         /* 4 bytes */
+#define ASCHEKNOPF_STATUS_OFFLINE_REASON 4 /* 4 bytes */
 
 /* The connector of phy n, a Reference of code 30 (6.18.4.1), for n from 0 to 31; those from p on are 0. The offsets below are in its bytes;
    the last 15 are reserved. */

@@ -138,9 +138,10 @@ static void show_controller(const uint8_t *reply)
 {
     if (!reply)
         return;
-    printf("        serial number %.81s, firmware", (const char *)reply + 52);
-    for (int i = 133; i < 141; i += 2)
-        printf("%c%u", i == 133 ? ' ' : '.', reply[i] | reply[i + 1] << 8u);
+    printf("        serial number %.81s, firmware", (const char *)reply + ASCHEKNOPF_CONTROLLER_SERIAL);
+    const uint8_t *firmware = reply + ASCHEKNOPF_CONTROLLER_FIRMWARE;
+    for (int i = 0; i < 8; i += 2)
+        printf("%c%u", i == 0 ? ' ' : '.', firmware[i] | firmware[i + 1] << 8u);
     printf("\n");
 }
 

@@ -145,9 +145,10 @@ static void front_page(void)
 {
     const uint8_t *body = request(2, 176);
     if (send_body("controller configuration", 176)) {
-        printf("    serial number %.81s, board %08Xh", (const char *)body + 52, (unsigned)word(body + 12));
-        print_revision("; firmware", body + 133);
-        print_revision(", BIOS", body + 141);
+        printf("    serial number %.81s, board %08Xh", (const char *)body + ASCHEKNOPF_CONTROLLER_SERIAL,
+               (unsigned)word(body + ASCHEKNOPF_CONTROLLER_BOARD));
+        print_revision("; firmware", body + ASCHEKNOPF_CONTROLLER_FIRMWARE);
+        print_revision(", BIOS", body + ASCHEKNOPF_CONTROLLER_BIOS);
         printf("\n");
     }
     request(3, 36);

@@ -1,25 +1,27 @@
--- The proof that the codes that report leave state and medium as they were, but for the reset of counters. Assumes nothing.
+-- The proof that the codes that report leave state and medium as they were, but for the reset of counters, and that each code that is served is
+-- in one of the two lists. Assumes nothing.
 use mathlib.Core.Path.{_≡_, refl}
 use mathlib.Core.Bool.{Bool, true, false, cond, _&&_, false≢true}
-use mathlib.Core.List.{List}
+use mathlib.Core.List.{List, [], _∷_, _++_}
 use Prim.Native.Nat.{ℕ, _≤_}
 use native.Mathlib.Omega.{arith}
 use lib.Dec.{eqb}
 use lib.ListN.{length, getD}
-use borrow.Author.Tests.{eq-eqb, ne-eqb}
-use Rattle.laws.specs.Choice.{by-bool}
+use borrow.Author.Tests.{eq-eqb, ne-eqb, eqb-true}
+use Rattle.laws.specs.Choice.{by-bool, both-left, both-right}
 use Rattle.codes.specs.Codes.{getLinkErrors, success, resetPlace, linkErrorResetCounts}
 use Rattle.level.specs.Need.{among}
 use Rattle.phy.specs.Change.{cleared}
 use Rattle.adapter.specs.Adapter.{Adapter, phyIn, withPhy}
 use Rattle.adapter.specs.Changed.{Changed, leaves}
 use Rattle.link_errors.specs.LinkErrors.{countersShown, linkErrors}
+use Rattle.header.specs.Table.{servedCodes, known}
 use Rattle.header.specs.Sent.{Request, formOf, controlOf, bodyOf}
 use Rattle.service.specs.Serve.{Store, Served, changed, served}
 use Rattle.dispatch.specs.Request.{Point, Outcome, inBuffer, replied}
 use Rattle.claims.specs.Run.{exchangeOf}
 use Rattle.claims.specs.LastWriter.{Told, toldBy}
-use Rattle.claims.specs.Reporting.{reporting, resets, countersCleared, leftBy, Reporting}
+use Rattle.claims.specs.Reporting.{reporting, writing, resets, countersCleared, leftBy, Reporting}
 use Rattle.claims.proofs.Ways.{served-by, handled-by, toldOf, told-number, told-refused, told-served}
 use Rattle.claims.proofs.PhyEffects.{errors-by}
 
@@ -86,7 +88,30 @@ module _ (p : Point) (r : Request) where
       (λ e. let n : false ≡ true = rw e at m in absurd (false≢true n))
       (λ _ n _. left-other p _ (rw (ne-eqb (controlOf r) getLinkErrors n) refl))
 
-pub reporting-leaves : Reporting
-reporting-leaves p r m =
-    handled-by p r (Left p r) (λ call h. left-refused p _ (told-number p r call h)) (λ code h k long. left-refused p _ (told-refused p r code h k long))
-    (λ _ long _. served-left p r m long)
+-- ---- the codes that are served
+
+-- a test that each of a list passes
+each : (ℕ → Bool) → List ℕ → Bool
+each f [] = true
+each f (x ∷ xs) = f x && each f xs
+
+among-each : (f : ℕ → Bool) (n : ℕ) (xs : List ℕ) → each f xs ≡ true → among n xs ≡ true → f n ≡ true
+unfolding each among
+among-each f n [] h m = absurd (false≢true m)
+among-each f n (x ∷ xs) h m =
+    by-bool (λ (b : Bool). eqb n x ≡ b → f n ≡ true) (λ e. rw (eqb-true n x e) (both-left (f x) (each f xs) h))
+    (λ e. among-each f n xs (both-right (f x) (each f xs) h) (rw e at m)) (eqb n x) refl
+
+listed : (control : ℕ) → known control ≡ true → among control (reporting ++ writing) ≡ true
+unfolding known each among
+listed control k = among-each (λ (x : ℕ). among x (reporting ++ writing)) control servedCodes refl k
+
+pub codes-report : Reporting
+codes-report =
+    record {
+      sorted = listed;
+      leaves = λ p r m.
+          handled-by p r (Left p r) (λ call h. left-refused p _ (told-number p r call h))
+          (λ code h k long. left-refused p _ (told-refused p r code h k long))
+          (λ _ long _. served-left p r m long);
+    }

@@ -3,15 +3,16 @@
 -- nothing.
 use mathlib.Core.Path.{_≡_}
 use mathlib.Core.Bool.{Bool, true, cond, _&&_}
-use mathlib.Core.List.{List, [], _∷_}
+use mathlib.Core.List.{List, [], _∷_, _++_}
 use Prim.Native.Nat.{ℕ}
 use lib.Dec.{eqb}
 use lib.ListN.{getD}
-use Rattle.codes.specs.Codes.{getDriverInfo, getCntlrConfig, getCntlrStatus, getPhyInfo, getLinkErrors, getSataSignature, getScsiAddress, getDeviceAddress, getConnectorInfo, resetPlace, linkErrorResetCounts}
+use Rattle.codes.specs.Codes.{getDriverInfo, getCntlrConfig, getCntlrStatus, getPhyInfo, setPhyInfo, getLinkErrors, stpPassthru, getSataSignature, getScsiAddress, getDeviceAddress, getConnectorInfo, resetPlace, linkErrorResetCounts}
 use Rattle.level.specs.Need.{among}
 use Rattle.phy.specs.Change.{cleared}
 use Rattle.adapter.specs.Adapter.{phyIn, withPhy}
 use Rattle.state.specs.State.{stateWith}
+use Rattle.header.specs.Table.{known}
 use Rattle.header.specs.Sent.{Request, controlOf}
 use Rattle.dispatch.specs.Request.{Point, point, handled}
 use Rattle.claims.specs.Run.{exchangeOf}
@@ -31,6 +32,10 @@ reporting =
     ∷ getConnectorInfo
     ∷ []
 
+-- those that are served and do more than report
+abbrev pub writing : List ℕ
+writing = setPhyInfo ∷ stpPassthru ∷ []
+
 -- "the reset of W-202": a granted 22 with reset byte 1
 unfoldable pub resets : Told → Bool
 resets t = t .granted && (eqb (t .control) getLinkErrors && eqb (getD (t .body) resetPlace 0) linkErrorResetCounts)
@@ -44,6 +49,7 @@ countersCleared p n =
 abbrev pub leftBy : Point → Told → Point
 leftBy p t = cond (resets t) (countersCleared p (getD (t .body) 0 0)) p
 
-abbrev pub Reporting : Type 0
-Reporting =
-    (p : Point) (r : Request) → among (controlOf r) reporting ≡ true → handled p r .point ≡ leftBy p (toldBy (exchangeOf r (handled p r)))
+pub record Reporting : Type 0 where
+  -- no code that is served is forgotten
+  pub sorted : (control : ℕ) → known control ≡ true → among control (reporting ++ writing) ≡ true
+  pub leaves : (p : Point) (r : Request) → among (controlOf r) reporting ≡ true → handled p r .point ≡ leftBy p (toldBy (exchangeOf r (handled p r)))

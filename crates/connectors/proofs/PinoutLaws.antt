@@ -1,10 +1,40 @@
 -- What is proved of the definitions in specs/Pinout.antt. Assumes nothing.
-use mathlib.Core.Path.{refl}
-use Rattle.laws.specs.Fill.{listTo}
+use mathlib.Core.Path.{_≡_, refl, sym, _∙_, ap}
+use mathlib.Core.Bool.{Bool, true}
+use mathlib.Core.List.{List}
+use Prim.Native.Nat.{ℕ, _<_}
+use native.Mathlib.Omega.{arith}
+use lib.Dec.{eqb, ltb}
+use lib.ListN.{getD}
+use Rattle.laws.specs.All.{allTo}
+use Rattle.laws.specs.Fill.{listTo, getD-listTo}
 use Rattle.wire.specs.Number.{bytes}
 use Rattle.connectors.specs.Connector.{pinoutHolds}
-use Rattle.connectors.specs.Pinout.{onlyBit, PinoutBits}
+use Rattle.connectors.specs.Pinout.{onlyBit, bitsWithin, PinoutBits}
+
+-- two tests of a byte that agree in a table of all 256
+by-table : (f g : ℕ → Bool) (v : ℕ) → v < 256 → listTo f 256 ≡ listTo g 256 → f v ≡ g v
+by-table f g v h e = sym (getD-listTo f 256 v true h) ∙ ap (λ (l : List Bool). getD l v true) e ∙ getD-listTo g 256 v true h
+
+first-byte : listTo (λ (v : ℕ). ltb v 4) 256 ≡ listTo (λ (v : ℕ). bitsWithin v 3) 256
+unfolding listTo bitsWithin allTo onlyBit
+first-byte = refl
+
+lanes-byte : listTo (λ (v : ℕ). ltb v 16) 256 ≡ listTo (λ (v : ℕ). bitsWithin v 15) 256
+unfolding listTo bitsWithin allTo onlyBit
+lanes-byte = refl
+
+last-byte : listTo (λ (v : ℕ). eqb v 0) 256 ≡ listTo (λ (v : ℕ). bitsWithin v 0) 256
+unfolding listTo bitsWithin allTo onlyBit
+last-byte = refl
 
 pub pinout-bits : PinoutBits
-unfolding listTo bytes pinoutHolds onlyBit
-pinout-bits = refl
+unfolding pinoutHolds allTo bytes
+pinout-bits c h =
+    rw (
+      by-table (λ (v : ℕ). ltb v 4) (λ (v : ℕ). bitsWithin v 3) (getD c 0 0) (h 0 (omega arith)) first-byte,
+      by-table (λ (v : ℕ). ltb v 16) (λ (v : ℕ). bitsWithin v 15) (getD c 1 0) (h 1 (omega arith)) lanes-byte,
+      by-table (λ (v : ℕ). ltb v 16) (λ (v : ℕ). bitsWithin v 15) (getD c 2 0) (h 2 (omega arith)) lanes-byte,
+      by-table (λ (v : ℕ). eqb v 0) (λ (v : ℕ). bitsWithin v 0) (getD c 3 0) (h 3 (omega arith)) last-byte,
+    )
+    refl

@@ -35,6 +35,7 @@ fn put_connector(d: &mut [u8], at: usize, file: &[u8], p: usize, a: usize, n: us
     wire::copy_part(d, at, file, layout::connector_place(p, a, n), 36);
 }
 
+// Those of the first p phys, over zeros.
 fn connectors_over(all: &mut [u8], file: &[u8], p: usize, a: usize)
     requires { ⌜ (p ≤ 32) × (a ≤ 64) × (length (now file) ≡ fileLength p a) ⌝ }
     requires { ⌜ now all ≡ zeros connectorsSize ⌝ }
@@ -47,6 +48,7 @@ fn connectors_over(all: &mut [u8], file: &[u8], p: usize, a: usize)
     }
 }
 
+// The same, and zero from p on, whatever stood there.
 fn put_connectors(all: &mut [u8], file: &[u8], p: usize, a: usize)
     requires { ⌜ (p ≤ 32) × (a ≤ 64) × (length (now file) ≡ fileLength p a) ⌝ }
     requires { ⌜ length (now all) ≡ connectorsSize ⌝ }

@@ -1,6 +1,6 @@
 -- What the control codes' table says: the room of a structure, and the needs. Assumes nothing.
 use mathlib.Core.Path.{_≡_, refl}
-use mathlib.Core.Bool.{Bool, false, cond}
+use mathlib.Core.Bool.{Bool, true, false, cond, _||_}
 use mathlib.Core.List.{List}
 use Prim.Native.Nat.{ℕ, _<_, _≤_}
 use native.Mathlib.Nat.{le-trans}
@@ -14,6 +14,16 @@ use Rattle.level.specs.Text.{restricted, full}
 use Rattle.level.proofs.BoundLaws.{need-bound, write-need}
 use Rattle.stp.specs.Body.{command}
 use Rattle.header.specs.Table.{structureSize, linkErrorsNeed, need}
+
+-- ---- the codes served, one test behind the other
+
+pub or-assoc : (a b c : Bool) → (a || b) || c ≡ a || (b || c)
+or-assoc true b c = refl
+or-assoc false b c = refl
+
+pub or-false : (a : Bool) → a || false ≡ a
+or-false true = refl
+or-false false = refl
 
 -- ---- rooms
 

@@ -1,5 +1,5 @@
 -- What each control code asks of a request: whether it is known, the size of its structure, its signature, its data and its need (document
--- 01, "Level" and "Request"; W-202, W-204). A new code is a new line in `known`, `structureSize` and `need`, and in the others where it is not as the
+-- 01, "Level" and "Request"; W-202, W-204). A new code is a new line in `servedCodes`, `structureSize` and `need`, and in the others where it is not as the
 -- rest. Assumes nothing.
 use mathlib.Core.Bool.{Bool, cond, _||_}
 use mathlib.Core.List.{List, [], _∷_, _++_}
@@ -10,23 +10,27 @@ use Rattle.laws.specs.Ascii.{ascii}
 use Rattle.codes.specs.Codes.{getDriverInfo, getCntlrConfig, getCntlrStatus, getPhyInfo, setPhyInfo, getLinkErrors, stpPassthru, getSataSignature, getScsiAddress, getDeviceAddress, getConnectorInfo, resetPlace, linkErrorResetCounts}
 use Rattle.level.specs.declared.Level.{Level}
 use Rattle.level.specs.Text.{restricted, full}
-use Rattle.level.specs.Need.{needOf}
+use Rattle.level.specs.Need.{among, needOf}
 use Rattle.stp.specs.Body.{command, dataLength, dataPlace}
 
 -- "Control codes served: 1 .., 20 .., 21 .., 22 .., 25 .., 26 .., 27 .., 28 .. Every other code is unknown for now"; "Serve codes 2, 3 and 30" (W-204)
+abbrev pub servedCodes : List ℕ
+servedCodes =
+    getDriverInfo
+    ∷ getCntlrConfig
+    ∷ getCntlrStatus
+    ∷ getPhyInfo
+    ∷ setPhyInfo
+    ∷ getLinkErrors
+    ∷ stpPassthru
+    ∷ getSataSignature
+    ∷ getScsiAddress
+    ∷ getDeviceAddress
+    ∷ getConnectorInfo
+    ∷ []
+
 unfoldable pub known : ℕ → Bool
-known control =
-    eqb control getDriverInfo
-    || eqb control getCntlrConfig
-    || eqb control getCntlrStatus
-    || eqb control getPhyInfo
-    || eqb control setPhyInfo
-    || eqb control getLinkErrors
-    || eqb control stpPassthru
-    || eqb control getSataSignature
-    || eqb control getScsiAddress
-    || eqb control getDeviceAddress
-    || eqb control getConnectorInfo
+known control = among control servedCodes
 
 -- "the structure's size without header", of 25 "without bDataBuffer"
 unfoldable pub structureSize : ℕ → ℕ

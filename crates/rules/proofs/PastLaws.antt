@@ -47,7 +47,7 @@ phy-zero b n =
     let o3 = zero-one b 103 (omega arith) in
     ap allZero w ∙ cc (counters-zero b)
 
--- ---- the phys from p on, and the rows from a on
+-- ---- the phys from p on, the rows from a on, and the connectors
 
 one-phy : (t : List ℕ) (p i : ℕ) → length t ≡ tablesSize → p + i < 32
     → allZero (part t (phyStart p + 104 * i) 104) ≡ phyZero (phyIn (tablesOf t) (p + i))

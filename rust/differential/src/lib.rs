@@ -12,7 +12,7 @@ pub mod names;
 pub mod need;
 pub mod pair;
 pub mod random;
-pub mod reads_only;
+pub mod reporting;
 pub mod request;
 pub mod run;
 pub mod sameness;

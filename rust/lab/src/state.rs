@@ -10,11 +10,7 @@ pub const PHY_SIZE: usize = 104;
 pub const ROWS: usize = 64;
 pub const ROW_SIZE: usize = 20;
 /// Behind the rows the controller's configuration, its status, and a connector for each phy.
-pub const CONTROLLER: usize = row_at(ROWS);
-pub const CONTROLLER_SIZE: usize = 176;
-pub const STATUS: usize = CONTROLLER + CONTROLLER_SIZE;
-pub const STATUS_SIZE: usize = 36;
-pub const CONNECTOR_SIZE: usize = 36;
+pub use library::{CONNECTOR, CONNECTOR_SIZE, CONTROLLER, CONTROLLER_SIZE, STATUS, STATUS_SIZE};
 
 /// The bytes of a disk, and of a sector.
 pub const DISK: usize = 8192;
@@ -29,7 +25,7 @@ pub const fn row_at(i: usize) -> usize {
 }
 
 pub const fn connector_at(n: usize) -> usize {
-    STATUS + STATUS_SIZE + CONNECTOR_SIZE * n
+    CONNECTOR + CONNECTOR_SIZE * n
 }
 
 /// A part of each state.
@@ -45,8 +41,9 @@ mod tests {
     #[test]
     fn the_parts_fill_a_state() {
         assert_eq!((phy_at(0), row_at(0)), (177, 3505));
-        assert_eq!((CONTROLLER, STATUS, connector_at(0)), (4785, 4961, 4997));
-        assert_eq!(connector_at(PHYS), 6149);
+        assert_eq!(row_at(ROWS), CONTROLLER);
+        assert_eq!(CONTROLLER + CONTROLLER_SIZE, STATUS);
+        assert_eq!(STATUS + STATUS_SIZE, connector_at(0));
         assert_eq!(connector_at(PHYS), library::STATE_SIZE);
     }
 }

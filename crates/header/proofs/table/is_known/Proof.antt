@@ -1,10 +1,12 @@
 -- `header::table::is_known` meets its contract. Assumes nothing.
+use Rattle.level.specs.Need.{among}
 use Rattle.header.specs.Table.{known}
+use Rattle.header.proofs.TableLaws.{or-assoc, or-false}
 use Rattle.header.proofs.table.is_known.Statement.{statement}
 use Rattle.header.proofs.table.is_known.Tie as tie
 
 pub is-known-spec : {M : Type 1} → statement M
-unfolding known
+unfolding known among
 is-known-spec =
     tie.close
-    (tie.spec (λ c. cc))
+    (tie.spec (λ c. simp (or-assoc, or-false)))

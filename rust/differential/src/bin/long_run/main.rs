@@ -95,7 +95,7 @@ impl Compared {
             if round % PROPERTIES == 0 {
                 runs.properties(seed, framing);
                 runs.sameness(seed);
-                runs.reads_only(seed);
+                runs.reporting(seed);
             }
             round += 1;
         }

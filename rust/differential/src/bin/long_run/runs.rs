@@ -8,7 +8,7 @@ use differential::random::Random;
 use differential::session::Framing;
 use differential::side::{CALLS, SIDES};
 use differential::two_runs::{check, check_denied, check_each, check_read_only, Level, Start};
-use differential::{generate, last_writer, reads_only, sameness, text};
+use differential::{generate, last_writer, reporting, sameness, text};
 
 /// The most requests of a case, the requests of a list, the bodies behind both headers, the requests that read.
 const CASE: usize = 120;
@@ -84,10 +84,10 @@ impl Runs {
     }
 
     /// Requests that read.
-    pub fn reads_only(&mut self, seed: u64) {
+    pub fn reporting(&mut self, seed: u64) {
         self.reading += READING as u64;
         for side in CALLS {
-            let left = reads_only::walk(side, seed, READING, |_| ());
+            let left = reporting::walk(side, seed, READING, |_| ());
             self.note(&format!("seed {seed}, {side:?}, reads only"), left);
         }
     }

@@ -5,7 +5,7 @@ use differential::case::Case;
 use differential::names::{ata, call, code, set_phy_info, status};
 use differential::need;
 use differential::random::Random;
-use differential::reads_only::{any, check, clear, resets, walk, READING};
+use differential::reporting::{any, check, clear, resets, walk, READING};
 use differential::request::passthrough::Passthrough;
 use differential::request::{first, fis, linux, Request};
 use differential::sameness::Lent;

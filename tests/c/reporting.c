@@ -1,7 +1,7 @@
 /* W-204's one statement: codes 1, 2, 3, 20, 22, 26, 27, 28 and 30 alter neither the state nor the medium, refused or granted, under either
    header and at every level, but for the four counters of the phy that a granted code 22 with reset byte 1 names. Runs in the repository's
    root. */
-#define PROGRAM "reads_only.c"
+#define PROGRAM "reporting.c"
 #include "headers.h"
 
 enum { CODES = 9, ALTERED = 20000 };
