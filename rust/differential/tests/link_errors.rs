@@ -3,6 +3,7 @@
 
 use differential::adapter::Adapter;
 use differential::case::{Case, Outcome};
+use differential::coverage::by_level::Asked as _;
 use differential::coverage::link_errors::{Asked, Reset};
 use differential::names::link_error::{DONT_RESET_COUNTS, RESET_COUNTS};
 use differential::names::{call, code, header, link_errors as at, phy, state, status};

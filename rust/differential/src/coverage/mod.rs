@@ -1,6 +1,7 @@
 //! How often each number, return code and command was met, with the first header, and with the Linux header at each level; code 22 by its
 //! reset byte too, and codes 2, 3 and 30 by the level with both; and which of those that the documents know were not.
 
+pub mod by_level;
 mod front_page;
 pub mod known;
 pub mod link_errors;
@@ -9,9 +10,8 @@ mod met;
 use crate::case::{Case, Outcome};
 use crate::names::{call, state};
 use crate::request::Header;
-use front_page::FrontPage;
+use by_level::ByLevel;
 use known::Kind;
-use link_errors::LinkErrors;
 use met::Met;
 use std::collections::BTreeMap;
 use std::fmt;
@@ -21,8 +21,8 @@ pub struct Coverage {
     pub requests: u64,
     openings: BTreeMap<u32, u64>,
     kinds: BTreeMap<Kind, Met>,
-    link_errors: LinkErrors,
-    front_page: FrontPage,
+    link_errors: ByLevel<link_errors::Asked>,
+    front_page: ByLevel<front_page::Asked>,
 }
 
 impl Coverage {
