@@ -21,7 +21,7 @@ use Rattle.service.specs.Serve.{Store, Served, changed, served}
 use Rattle.dispatch.specs.Request.{Point, Outcome, inBuffer, replied}
 use Rattle.claims.specs.Run.{exchangeOf}
 use Rattle.claims.specs.LastWriter.{Told, toldBy}
-use Rattle.claims.specs.Reporting.{reporting, writing, resets, countersCleared, leftBy, Reporting}
+use Rattle.claims.specs.Reporting.{reporting, altering, resets, countersCleared, leftBy, Reporting}
 use Rattle.claims.proofs.Ways.{served-by, handled-by, toldOf, told-number, told-refused, told-served}
 use Rattle.claims.proofs.PhyEffects.{errors-by}
 
@@ -102,15 +102,15 @@ among-each f n (x ∷ xs) h m =
     by-bool (λ (b : Bool). eqb n x ≡ b → f n ≡ true) (λ e. rw (eqb-true n x e) (both-left (f x) (each f xs) h))
     (λ e. among-each f n xs (both-right (f x) (each f xs) h) (rw e at m)) (eqb n x) refl
 
-listed : (control : ℕ) → known control ≡ true → among control (reporting ++ writing) ≡ true
+listed : (control : ℕ) → known control ≡ true → among control (reporting ++ altering) ≡ true
 unfolding known each among
-listed control k = among-each (λ (x : ℕ). among x (reporting ++ writing)) control servedCodes refl k
+listed control k = among-each (λ (x : ℕ). among x (reporting ++ altering)) control servedCodes refl k
 
 pub codes-report : Reporting
 codes-report =
     record {
       sorted = listed;
-      leaves = λ p r m.
+      unaltered = λ p r m.
           handled-by p r (Left p r) (λ call h. left-refused p _ (told-number p r call h))
           (λ code h k long. left-refused p _ (told-refused p r code h k long))
           (λ _ long _. served-left p r m long);

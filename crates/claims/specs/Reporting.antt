@@ -33,8 +33,8 @@ reporting =
     ∷ []
 
 -- those that are served and do more than report
-abbrev pub writing : List ℕ
-writing = setPhyInfo ∷ stpPassthru ∷ []
+abbrev pub altering : List ℕ
+altering = setPhyInfo ∷ stpPassthru ∷ []
 
 -- "the reset of W-202": a granted 22 with reset byte 1
 unfoldable pub resets : Told → Bool
@@ -51,5 +51,5 @@ leftBy p t = cond (resets t) (countersCleared p (getD (t .body) 0 0)) p
 
 pub record Reporting : Type 0 where
   -- no code that is served is forgotten
-  pub sorted : (control : ℕ) → known control ≡ true → among control (reporting ++ writing) ≡ true
-  pub leaves : (p : Point) (r : Request) → among (controlOf r) reporting ≡ true → handled p r .point ≡ leftBy p (toldBy (exchangeOf r (handled p r)))
+  pub sorted : (control : ℕ) → known control ≡ true → among control (reporting ++ altering) ≡ true
+  pub unaltered : (p : Point) (r : Request) → among (controlOf r) reporting ≡ true → handled p r .point ≡ leftBy p (toldBy (exchangeOf r (handled p r)))

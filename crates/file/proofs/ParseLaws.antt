@@ -13,7 +13,7 @@ use Rattle.rows.specs.Row.{rowOf, rowsSize, rowStart, rowsOf, zeroRow, noRow}
 use Rattle.rows.proofs.ReadLaws.{row-part}
 use Rattle.block.specs.Check.{blockAt}
 use Rattle.connectors.specs.Connector.{connectorsSize, connectorOf, connectorsOf, zeroConnector}
-use Rattle.layout.specs.Layout.{phyPlace, rowPlace, controllerPlace, statusPlace, connectorPlace, fileLength}
+use Rattle.layout.specs.Layout.{phyPlace, rowPlace, controllerPlace, controllerStatusPlace, connectorPlace, fileLength}
 use Rattle.tables.specs.Tables.{tablesSize, phyStart, rowsStart, controllerStart, statusStart, connectorsStart, phyAt, tablesOf}
 use Rattle.tables.proofs.ZeroLaws.{phy-zeros, row-zeros}
 use Rattle.file.specs.File.{filePhy, fileRow, fileConnector, adapterOf}
@@ -154,7 +154,7 @@ module _ (t file : List ℕ) (p a : ℕ) (size : length t ≡ tablesSize) (k : p
   controller-part : part read controllerStart 176 ≡ part file (controllerPlace p a) 176
   controller-part = pair-part 0 176 (omega arith) ∙ rw add-zero
 
-  status-part : part read statusStart 36 ≡ part file (statusPlace p a) 36
+  status-part : part read statusStart 36 ≡ part file (controllerStatusPlace p a) 36
   status-part = pair-part 176 36 (omega arith)
 
   connectors-part : part read connectorsStart connectorsSize ≡ connectorsFrom file p a

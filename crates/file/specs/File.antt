@@ -14,7 +14,7 @@ use Rattle.phy.specs.declared.Phy.{Phy}
 use Rattle.phy.specs.Block.{phyOf, zeroPhy}
 use Rattle.rows.specs.Row.{Row, rowOf, zeroRow}
 use Rattle.connectors.specs.Connector.{zeroConnector}
-use Rattle.layout.specs.Layout.{phyCount, rowCount, phyBlock, rowPlace, controllerPlace, statusPlace, connectorPlace, blocks, fileLength}
+use Rattle.layout.specs.Layout.{phyCount, rowCount, phyBlock, rowPlace, controllerPlace, controllerStatusPlace, connectorPlace, blocks, fileLength}
 use Rattle.layout.specs.Unnamed.{unnamedZero}
 use Rattle.adapter.specs.Adapter.{Adapter, zeroAdapter, countsHold, fieldsAll}
 
@@ -48,7 +48,7 @@ adapterOf file p a =
       phys = padded (filePhy file) p 32 zeroPhy;
       rows = padded (fileRow file p) a 64 zeroRow;
       controller = part file (controllerPlace p a) 176;
-      status = part file (statusPlace p a) 36;
+      status = part file (controllerStatusPlace p a) 36;
       connectors = padded (fileConnector file p a) p 32 zeroConnector;
     }
 

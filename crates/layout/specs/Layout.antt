@@ -43,8 +43,8 @@ abbrev pub connectorPlace : ℕ → ℕ → ℕ → ℕ
 connectorPlace p a n = 512 * (controllerBlock p a + 1 + n)
 
 -- "Each structure stands from byte 0, status right after configuration", which has 176 bytes
-abbrev pub statusPlace : ℕ → ℕ → ℕ
-statusPlace p a = controllerPlace p a + 176
+abbrev pub controllerStatusPlace : ℕ → ℕ → ℕ
+controllerStatusPlace p a = controllerPlace p a + 176
 
 -- the blocks of a file with p phys and `a` rows: 2 + 2p + a/25 rounded up; and its length
 abbrev pub blocks : ℕ → ℕ → ℕ
