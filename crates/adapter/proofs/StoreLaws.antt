@@ -27,7 +27,7 @@ pub phy-other : (ad : Adapter) (n m : ℕ) (phy : Phy) → m ≢ n → phyIn (wi
 unfolding withPhy
 phy-other ad n m phy h = getD-set-other (ad .phys) n m phy noPhy h
 
--- everything else
+-- the counts, and tables that later proofs ask for
 pub counts-stored : (ad : Adapter) (n : ℕ) (phy : Phy)
     → (withPhy ad n phy .«phy_count» ≡ ad .«phy_count») × (withPhy ad n phy .«row_count» ≡ ad .«row_count»)
 unfolding withPhy

@@ -28,10 +28,10 @@ use Rattle.service.specs.Serve.{Store, reported, changed, reportOf, served}
 use Rattle.header.proofs.SentLaws.{checks-room}
 use Rattle.dispatch.proofs.Laws.{number-state}
 use Rattle.header.specs.Sent.{Request, formOf, controlOf, bodyOf}
-use Rattle.dispatch.specs.Request.{Point, Outcome, bufferNumber, pointNumber, inBuffer, answered, replied, answeredAt, handled}
+use Rattle.dispatch.specs.Request.{Point, Outcome, bufferNumber, pointNumber, answered, answeredAt, handled}
 use Rattle.claims.specs.Run.{exchangeOf, step, openedAt, wholeRun}
 use Rattle.claims.specs.LastWriter.{granted, Told, toldBy}
-use Rattle.claims.proofs.Ways.{tables-hold, toldOf, told-served}
+use Rattle.claims.proofs.Ways.{tables-hold, replyWith, toldOf, told-served}
 use Rattle.claims.proofs.Moved.{rows-hold}
 use Rattle.claims.proofs.Reached.{number-zero, Reached, reached}
 use Rattle.claims.specs.RoundTrip.{Sound, bodyShown, grants, RoundTrip, ConversionsClaim}
@@ -45,10 +45,10 @@ record AcceptedRows (p : Point) : Type 0 where
 
 -- what it is answered with, of a code that only reports
 unfoldable reportedBy : Point → Request → Report → Outcome
-reportedBy p r x = replied (formOf r) (p .state .level) (inBuffer r (changed (p .store) (reported (p .state .adapter) x)))
+reportedBy p r x = replyWith p r (changed (p .store) (reported (p .state .adapter) x))
 
 handled-sound : (p : Point) (r : Request) (control : ℕ) → pointNumber p ≡ 0 → Sound p r control
-    → handled p r ≡ replied (formOf r) (p .state .level) (inBuffer r (served (p .state .adapter) (p .store) control (bodyOf r)))
+    → handled p r ≡ replyWith p r (served (p .state .adapter) (p .store) control (bodyOf r))
 unfolding handled bufferNumber answeredAt answered
 handled-sound p r control n o = rw (n, le-ltb (length (r .buffer)) (formOf r .size) (o .long), o .passes, o .coded) refl
 

@@ -20,11 +20,11 @@ use Rattle.service.proofs.Laws.{passthrough-lent}
 use Rattle.service.specs.Serve.{Store, Served, changed, passed, served}
 use Rattle.dispatch.proofs.Laws.{number-state, number-medium}
 use Rattle.header.specs.Sent.{Request, formOf, controlOf, bodyOf}
-use Rattle.dispatch.specs.Request.{Point, Outcome, stateNumber, bufferNumber, pointNumber, untouched, inBuffer, replied, handled}
+use Rattle.dispatch.specs.Request.{Point, Outcome, stateNumber, bufferNumber, pointNumber, untouched, handled}
 use Rattle.claims.specs.Run.{exchangeOf, step, entryOf}
 use Rattle.claims.specs.LastWriter.{toldBy}
 use Rattle.claims.proofs.Steps.{level-kept}
-use Rattle.claims.proofs.Ways.{Ready, served-by, handled-by, told-number, told-refused, told-served}
+use Rattle.claims.proofs.Ways.{Ready, served-by, replyWith, handled-by, told-number, told-refused, told-served}
 use Rattle.claims.proofs.Moved.{Sized, Moved, moved-refl, moved-trans, sized-moved}
 use Rattle.claims.proofs.Effect.{Effect, Does, no-effect, report-effect}
 use Rattle.claims.proofs.PhyEffects.{set-effect, errors-effect}
@@ -37,22 +37,19 @@ module _ (p : Point) (r : Request) where
   abbrev EffectOf : Outcome → Type 0
   EffectOf o = Effect (p .state .adapter) (p .store) (toldBy (exchangeOf r o)) (o .point .state .adapter) (o .point .store)
 
-  abbrev replyWith : Served → Outcome
-  replyWith x = replied (formOf r) (p .state .level) (inBuffer r x)
-
   -- of a control code, from what the code does
   done : formOf r .size ≤ length (r .buffer) → (control : ℕ) → controlOf r ≡ control → (x : Served)
-      → Does (p .state .adapter) (p .store) control (bodyOf r) x → EffectOf (replyWith x)
+      → Does (p .state .adapter) (p .store) control (bodyOf r) x → EffectOf (replyWith p r x)
   done long control e x d = rw (told-served p r x (d .small) long, e) (d .effect)
 
   served-effect : formOf r .size ≤ length (r .buffer) → Sized (p .state .adapter) → Ready (p .state .adapter) (p .store) (controlOf r) (bodyOf r)
-      → EffectOf (replyWith (served (p .state .adapter) (p .store) (controlOf r) (bodyOf r)))
+      → EffectOf (replyWith p r (served (p .state .adapter) (p .store) (controlOf r) (bodyOf r)))
   unfolding toldBy
   served-effect long z k =
       let ad : Adapter = p .state .adapter in
       let store : Store = p .store in
       let body : List ℕ = bodyOf r in
-      served-by ad store (controlOf r) body (λ (x : Served). EffectOf (replyWith x))
+      served-by ad store (controlOf r) body (λ (x : Served). EffectOf (replyWith p r x))
       (λ e. done long setPhyInfo e (changed store (setInfo ad body)) (set-effect ad store body (k .holds) z))
       (λ e. done long getLinkErrors e (changed store (linkErrors ad body)) (errors-effect ad store body (k .holds) z))
       (λ e. done long stpPassthru e (passed ad store (passthrough ad (store .medium) body))

@@ -18,11 +18,11 @@ use Rattle.link_errors.specs.LinkErrors.{countersShown, linkErrors}
 use Rattle.header.specs.Table.{servedCodes, known}
 use Rattle.header.specs.Sent.{Request, formOf, controlOf, bodyOf}
 use Rattle.service.specs.Serve.{Store, Served, changed, served}
-use Rattle.dispatch.specs.Request.{Point, Outcome, inBuffer, replied}
+use Rattle.dispatch.specs.Request.{Point, Outcome}
 use Rattle.claims.specs.Run.{exchangeOf}
 use Rattle.claims.specs.LastWriter.{Told, toldBy}
 use Rattle.claims.specs.Reporting.{reporting, altering, resets, countersCleared, leftBy, Reporting}
-use Rattle.claims.proofs.Ways.{served-by, handled-by, toldOf, told-number, told-refused, told-served}
+use Rattle.claims.proofs.Ways.{served-by, replyWith, handled-by, toldOf, told-number, told-refused, told-served}
 use Rattle.claims.proofs.PhyEffects.{errors-by}
 
 -- ---- what resets no counters
@@ -54,9 +54,6 @@ module _ (p : Point) (r : Request) where
   abbrev Left : Outcome → Type 0
   Left o = o .point ≡ leftBy p (toldBy (exchangeOf r o))
 
-  abbrev replyWith : Served → Outcome
-  replyWith x = replied (formOf r) (p .state .level) (inBuffer r x)
-
   -- what a 22 leaves: a return code and these tables, with the counters shown or not
   abbrev leaving : ℕ → Adapter → List ℕ → Served
   leaving code bd after = changed store (leaves code bd after)
@@ -68,10 +65,10 @@ module _ (p : Point) (r : Request) where
   clearing = withPhy ad (getD body 0 0) (cleared (phyIn ad (getD body 0 0)))
 
   -- code 22
-  errors-left : formOf r .size ≤ length (r .buffer) → controlOf r ≡ getLinkErrors → Left (replyWith (changed store (linkErrors ad body)))
+  errors-left : formOf r .size ≤ length (r .buffer) → controlOf r ≡ getLinkErrors → Left (replyWith p r (changed store (linkErrors ad body)))
   unfolding resets
   errors-left long e =
-      errors-by ad body (λ (c : Changed). Left (replyWith (changed store c)))
+      errors-by ad body (λ (c : Changed). Left (replyWith p r (changed store c)))
       (λ code k l.
       rw (told-served p r (leaving code ad body) l long) (left-refused p (toldOf (controlOf r) body (leaving code ad body)) (ne-eqb code success (λ z. omega arith))))
       (λ t k. rw (told-served p r (leaving success clearing shown) (omega arith) long, eq-eqb (controlOf r) getLinkErrors e, t) refl)
@@ -79,10 +76,10 @@ module _ (p : Point) (r : Request) where
       rw (told-served p r (leaving success ad shown) (omega arith) long)
       (left-other p (toldOf (controlOf r) body (leaving success ad shown)) (rw (eq-eqb (controlOf r) getLinkErrors e, t) refl)))
 
-  served-left : among (controlOf r) reporting ≡ true → formOf r .size ≤ length (r .buffer) → Left (replyWith (served ad store (controlOf r) body))
+  served-left : among (controlOf r) reporting ≡ true → formOf r .size ≤ length (r .buffer) → Left (replyWith p r (served ad store (controlOf r) body))
   unfolding among toldBy
   served-left m long =
-      served-by ad store (controlOf r) body (λ (x : Served). Left (replyWith x))
+      served-by ad store (controlOf r) body (λ (x : Served). Left (replyWith p r x))
       (λ e. let n : false ≡ true = rw e at m in absurd (false≢true n))
       (errors-left long)
       (λ e. let n : false ≡ true = rw e at m in absurd (false≢true n))

@@ -52,11 +52,15 @@ pub tables-hold : (s : State) → stateHolds s ≡ true → adapterHolds (s .ada
 unfolding stateHolds
 tables-hold s = both-right (leb (s .level .0) 3) (adapterHolds (s .adapter))
 
+-- what a request leaves whose code leaves this
+abbrev pub replyWith : Point → Request → Served → Outcome
+replyWith p r x = replied (formOf r) (p .state .level) (inBuffer r x)
+
 pub handled-by : (p : Point) (r : Request) (P : Outcome → Type 0)
     → ((call : ℕ) → 0 < call → P (untouched call p r))
     → ((code : ℕ) → 0 < code → code ≤ 4 → formOf r .size ≤ length (r .buffer) → P (replied (formOf r) (p .state .level) (refusedRequest code (p .state .adapter) (p .store) r)))
     → (checksCode (p .state .level) r ≡ success → formOf r .size ≤ length (r .buffer) → Ready (p .state .adapter) (p .store) (controlOf r) (bodyOf r)
-    → P (replied (formOf r) (p .state .level) (inBuffer r (served (p .state .adapter) (p .store) (controlOf r) (bodyOf r)))))
+    → P (replyWith p r (served (p .state .adapter) (p .store) (controlOf r) (bodyOf r))))
     → P (handled p r)
 unfolding handled answeredAt answered
 handled-by p r P number refuse serve =
@@ -98,7 +102,7 @@ module _ (p : Point) (r : Request) where
 
   -- what was served tells its return code and the bodies
   pub told-served : (x : Served) → x .code ≤ 2014 → formOf r .size ≤ length (r .buffer)
-      → toldBy (exchangeOf r (replied (formOf r) (p .state .level) (inBuffer r x))) ≡ toldOf (controlOf r) (bodyOf r) x
+      → toldBy (exchangeOf r (replyWith p r x)) ≡ toldOf (controlOf r) (bodyOf r) x
   unfolding toldBy granted
   told-served x k h =
       rw (

@@ -52,4 +52,5 @@ leftBy p t = cond (resets t) (countersCleared p (getD (t .body) 0 0)) p
 pub record Reporting : Type 0 where
   -- no code that is served is forgotten
   pub sorted : (control : ℕ) → known control ≡ true → among control (reporting ++ altering) ≡ true
+  -- "none alters the state or the medium, but for the reset of W-202"
   pub unaltered : (p : Point) (r : Request) → among (controlOf r) reporting ≡ true → handled p r .point ≡ leftBy p (toldBy (exchangeOf r (handled p r)))

@@ -1,4 +1,4 @@
--- The numbers of CSMI's section 10, each said once, under section 10's names: control codes, link rates, device types, connection status, directions, pinouts, return codes, and the reset of link errors with its place. Where
+-- The numbers of CSMI's section 10, each said once, under section 10's names: control codes, link rates, device types, connection status, directions, pinouts (which the code tests by bytes, so that they stand in definitions alone), return codes, and the reset of link errors with its place. Where
 -- document 01 prints another number, section 10 decides, as document 01 says. The call's own numbers are document 01's.
 -- Assumes nothing.
 use Prim.Native.Nat.{ℕ}
@@ -91,35 +91,35 @@ linkErrorResetCounts = 1
 
 -- pinouts of a connector (6.18.3), one bit each
 
-abbrev pub pinoutUnknown : ℕ
-pinoutUnknown = 0x1
+abbrev pub conUnknown : ℕ
+conUnknown = 0x1
 
-abbrev pub pinoutSff8482 : ℕ
-pinoutSff8482 = 0x2
+abbrev pub conSff8482 : ℕ
+conSff8482 = 0x2
 
-abbrev pub pinoutSff8470Lane1 : ℕ
-pinoutSff8470Lane1 = 0x100
+abbrev pub conSff8470Lane1 : ℕ
+conSff8470Lane1 = 0x100
 
-abbrev pub pinoutSff8470Lane2 : ℕ
-pinoutSff8470Lane2 = 0x200
+abbrev pub conSff8470Lane2 : ℕ
+conSff8470Lane2 = 0x200
 
-abbrev pub pinoutSff8470Lane3 : ℕ
-pinoutSff8470Lane3 = 0x400
+abbrev pub conSff8470Lane3 : ℕ
+conSff8470Lane3 = 0x400
 
-abbrev pub pinoutSff8470Lane4 : ℕ
-pinoutSff8470Lane4 = 0x800
+abbrev pub conSff8470Lane4 : ℕ
+conSff8470Lane4 = 0x800
 
-abbrev pub pinoutSff8484Lane1 : ℕ
-pinoutSff8484Lane1 = 0x10000
+abbrev pub conSff8484Lane1 : ℕ
+conSff8484Lane1 = 0x10000
 
-abbrev pub pinoutSff8484Lane2 : ℕ
-pinoutSff8484Lane2 = 0x20000
+abbrev pub conSff8484Lane2 : ℕ
+conSff8484Lane2 = 0x20000
 
-abbrev pub pinoutSff8484Lane3 : ℕ
-pinoutSff8484Lane3 = 0x40000
+abbrev pub conSff8484Lane3 : ℕ
+conSff8484Lane3 = 0x40000
 
-abbrev pub pinoutSff8484Lane4 : ℕ
-pinoutSff8484Lane4 = 0x80000
+abbrev pub conSff8484Lane4 : ℕ
+conSff8484Lane4 = 0x80000
 
 -- return codes ("In the return code", document 01)
 

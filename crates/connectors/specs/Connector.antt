@@ -1,16 +1,16 @@
 -- The connectors of an adapter's phys (W-204; 6.18 of CSMI): a reference of 36 bytes for each, the pinout in its first four, and their rules.
 -- Assumes nothing.
-use mathlib.Core.Bool.{Bool, _&&_}
+use mathlib.Core.Bool.{Bool}
 use mathlib.Core.List.{List, []}
 use Prim.Native.Nat.{ℕ, _+_, _-_, _*_}
-use lib.Dec.{eqb, ltb}
 use lib.ListN.{getD, replicate}
 use Rattle.laws.specs.All.{allTo}
 use Rattle.laws.specs.Fill.{listTo}
 use Rattle.laws.specs.Splice.{part}
 use Rattle.wire.specs.Same.{allZero}
+use Rattle.connectors.specs.Pinout.{pinoutHolds}
 
--- "32 references of 36 bytes", one behind the other
+-- the 32 references of 6.18.4.2, 36 bytes each, one behind the other
 abbrev pub connectorsSize : ℕ
 connectorsSize = 1152
 
@@ -31,14 +31,10 @@ zeroConnector = replicate 36 0
 abbrev pub connectorAt : List (List ℕ) → ℕ → List ℕ
 connectorAt connectors n = getD connectors n []
 
--- "free but for pinout bits outside section 10's pinout constants", which are bits 0 and 1, 8 to 11 and 16 to 19: 000F0F03h
-unfoldable pub pinoutHolds : List ℕ → Bool
-pinoutHolds c = ltb (getD c 0 0) 4 && ltb (getD c 1 0) 16 && ltb (getD c 2 0) 16 && eqb (getD c 3 0) 0
-
--- the same of each phy's connector
+-- "free but for pinout bits outside section 10's pinout constants", of each phy's connector
 unfoldable pub pinoutsHold : List (List ℕ) → ℕ → Bool
 pinoutsHold connectors p = allTo (λ (n : ℕ). pinoutHolds (connectorAt connectors n)) p
 
--- "Connectors from p on are zero in the state"
+-- "References from p on are zero", asked of a state
 unfoldable pub connectorsPast : List (List ℕ) → ℕ → Bool
 connectorsPast connectors p = allTo (λ (i : ℕ). allZero (connectorAt connectors (p + i))) (32 - p)

@@ -1,2 +1,2 @@
-pub mod Connector
 pub mod Pinout
+pub mod Connector

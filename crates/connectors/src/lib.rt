@@ -2,7 +2,8 @@
 ghost use mathlib.Core.Path.{_≡_};
 ghost use Prim.Native.Nat.{_<_, _≤_};
 ghost use lib.ListN.{length};
-ghost use Rattle.connectors.specs.Connector.{connectorsSize, connectorsOf, connectorAt, pinoutHolds, pinoutsHold, connectorsPast};
+ghost use Rattle.connectors.specs.Pinout.{pinoutHolds};
+ghost use Rattle.connectors.specs.Connector.{connectorsSize, connectorsOf, connectorAt, pinoutsHold, connectorsPast};
 
 // The pinout of connector n has no bit but those of section 10's constants.
 fn pinout_holds(connectors: &[u8], n: usize) -> bool

@@ -103,11 +103,11 @@ module _ (t file : List ℕ) (p a : ℕ) (size : length t ≡ tablesSize) (k : p
   abbrev manned : List ℕ
   manned = splice (headed t file p a) 176 (physFrom file p)
 
-  abbrev addressed : List ℕ
-  addressed = splice manned rowsStart (rowsFrom file p a)
+  abbrev withRows : List ℕ
+  withRows = splice manned rowsStart (rowsFrom file p a)
 
   abbrev read : List ℕ
-  read = splice (controlled addressed file p a) connectorsStart (connectorsFrom file p a)
+  read = splice (controlled withRows file p a) connectorsStart (connectorsFrom file p a)
 
   counted-long : length (splice t 0 (p ∷ a ∷ [])) ≡ tablesSize
   counted-long = length-splice t 0 (p ∷ a ∷ []) (omega arith) ∙ size
@@ -119,36 +119,36 @@ module _ (t file : List ℕ) (p a : ℕ) (size : length t ≡ tablesSize) (k : p
   manned-long : length manned ≡ tablesSize
   manned-long = length-splice (headed t file p a) 176 (physFrom file p) (omega (arith, headed-long, phys-long)) ∙ headed-long
 
-  addressed-long : length addressed ≡ tablesSize
-  addressed-long = length-splice manned rowsStart (rowsFrom file p a) (omega (arith, manned-long, rows-long)) ∙ manned-long
+  withRows-long : length withRows ≡ tablesSize
+  withRows-long = length-splice manned rowsStart (rowsFrom file p a) (omega (arith, manned-long, rows-long)) ∙ manned-long
 
   pair-long : length (part file (controllerPlace p a) 212) ≡ 212
   pair-long = length-part file (controllerPlace p a) 212 (omega arith)
 
-  controlled-long : length (controlled addressed file p a) ≡ tablesSize
+  controlled-long : length (controlled withRows file p a) ≡ tablesSize
   unfolding controlled
   controlled-long =
-      length-splice addressed controllerStart (part file (controllerPlace p a) 212) (omega (arith, addressed-long, pair-long)) ∙ addressed-long
+      length-splice withRows controllerStart (part file (controllerPlace p a) 212) (omega (arith, withRows-long, pair-long)) ∙ withRows-long
 
   -- what stands below configuration and status
-  low-byte : (i : ℕ) → i < controllerStart → getD read i 0 ≡ getD addressed i 0
+  low-byte : (i : ℕ) → i < controllerStart → getD read i 0 ≡ getD withRows i 0
   unfolding controlled
   low-byte i h =
-      get-below (controlled addressed file p a) connectorsStart (connectorsFrom file p a) i 0 (omega (arith, controlled-long)) (omega arith)
-      ∙ get-below addressed controllerStart (part file (controllerPlace p a) 212) i 0 (omega (arith, addressed-long)) h
+      get-below (controlled withRows file p a) connectorsStart (connectorsFrom file p a) i 0 (omega (arith, controlled-long)) (omega arith)
+      ∙ get-below withRows controllerStart (part file (controllerPlace p a) 212) i 0 (omega (arith, withRows-long)) h
 
-  low-part : (i n : ℕ) → i + n ≤ controllerStart → part read i n ≡ part addressed i n
+  low-part : (i n : ℕ) → i + n ≤ controllerStart → part read i n ≡ part withRows i n
   unfolding controlled
   low-part i n h =
-      part-below (controlled addressed file p a) connectorsStart (connectorsFrom file p a) i n (omega (arith, controlled-long)) (omega arith)
-      ∙ part-below addressed controllerStart (part file (controllerPlace p a) 212) i n (omega (arith, addressed-long)) h
+      part-below (controlled withRows file p a) connectorsStart (connectorsFrom file p a) i n (omega (arith, controlled-long)) (omega arith)
+      ∙ part-below withRows controllerStart (part file (controllerPlace p a) 212) i n (omega (arith, withRows-long)) h
 
   -- a part of the two
   pair-part : (i n : ℕ) → i + n ≤ 212 → part read (controllerStart + i) n ≡ part file (controllerPlace p a + i) n
   unfolding controlled
   pair-part i n h =
-      part-below (controlled addressed file p a) connectorsStart (connectorsFrom file p a) (controllerStart + i) n (omega (arith, controlled-long)) (omega arith)
-      ∙ part-in addressed controllerStart (part file (controllerPlace p a) 212) i n (omega (arith, addressed-long)) (omega (arith, pair-long))
+      part-below (controlled withRows file p a) connectorsStart (connectorsFrom file p a) (controllerStart + i) n (omega (arith, controlled-long)) (omega arith)
+      ∙ part-in withRows controllerStart (part file (controllerPlace p a) 212) i n (omega (arith, withRows-long)) (omega (arith, pair-long))
       ∙ part-part file (controllerPlace p a) 212 i n h
 
   controller-part : part read controllerStart 176 ≡ part file (controllerPlace p a) 176
@@ -160,7 +160,7 @@ module _ (t file : List ℕ) (p a : ℕ) (size : length t ≡ tablesSize) (k : p
   connectors-part : part read connectorsStart connectorsSize ≡ connectorsFrom file p a
   connectors-part =
       ap (part read connectorsStart) (sym connectors-long)
-      ∙ part-splice (controlled addressed file p a) connectorsStart (connectorsFrom file p a) (omega (arith, controlled-long))
+      ∙ part-splice (controlled withRows file p a) connectorsStart (connectorsFrom file p a) (omega (arith, controlled-long))
 
   -- what stands in the head is the head's
   head-byte : (i : ℕ) → i < 176 → getD read i 0 ≡ getD (headed t file p a) i 0
@@ -194,7 +194,7 @@ module _ (t file : List ℕ) (p a : ℕ) (size : length t ≡ tablesSize) (k : p
   rows-part : part read rowsStart rowsSize ≡ rowsFrom file p a
   rows-part =
       low-part rowsStart rowsSize (omega arith)
-      ∙ ap (part addressed rowsStart) (sym rows-long)
+      ∙ ap (part withRows rowsStart) (sym rows-long)
       ∙ part-splice manned rowsStart (rowsFrom file p a) (omega (arith, manned-long))
 
   -- the phys
@@ -225,31 +225,10 @@ pub parsed : (t file : List ℕ) (p a : ℕ) (b c d x y : List ℕ) → length t
     → x ≡ controlled d file p a → y ≡ splice x connectorsStart (connectorsFrom file p a) → tablesOf y ≡ adapterOf file p a
 parsed t file p a b c d x y size k l m e f g q r = rw (r, q, g, f, e) (tables-read t file p a size k l m)
 
--- a phy's bytes and a row's, as copied
-pub phy-copied : (file d s : List ℕ) (at from n : ℕ) → from ≡ phyPlace n → s ≡ splice d at (part file from 104)
-    → s ≡ splice d at (phyFrom file n)
-unfolding phyFrom
-phy-copied file d s at from n e q = q ∙ rw e
+-- a part of a file that was copied, by its place
+pub part-copied : (file d s : List ℕ) (at from place n : ℕ) → from ≡ place → s ≡ splice d at (part file from n) → s ≡ splice d at (part file place n)
+part-copied file d s at from place n e q = q ∙ rw e
 
-pub phy-length : (file : List ℕ) (n : ℕ) → 512 * (1 + n) + 512 ≤ length file → length (phyFrom file n) ≡ 104
-unfolding phyFrom
+-- a phy's bytes stand in its block
+pub phy-length : (file : List ℕ) (n : ℕ) → 512 * (1 + n) + 512 ≤ length file → length (part file (phyPlace n) 104) ≡ 104
 phy-length file n h = length-part file (phyPlace n) 104 (omega arith)
-
-pub row-copied : (file d s : List ℕ) (at from p i : ℕ) → from ≡ rowPlace p i → s ≡ splice d at (part file from 20)
-    → s ≡ splice d at (rowFrom file p i)
-unfolding rowFrom
-row-copied file d s at from p i e q = q ∙ rw e
-
-pub row-length : (file : List ℕ) (p i : ℕ) → rowPlace p i + 20 ≤ length file → length (rowFrom file p i) ≡ 20
-unfolding rowFrom
-row-length file p i h = length-part file (rowPlace p i) 20 h
-
--- a connector's
-pub connector-copied : (file d s : List ℕ) (at from p a n : ℕ) → from ≡ connectorPlace p a n → s ≡ splice d at (part file from 36)
-    → s ≡ splice d at (fileConnector file p a n)
-unfolding fileConnector
-connector-copied file d s at from p a n e q = q ∙ rw e
-
-pub connector-length : (file : List ℕ) (p a n : ℕ) → connectorPlace p a n + 36 ≤ length file → length (fileConnector file p a n) ≡ 36
-unfolding fileConnector
-connector-length file p a n h = length-part file (connectorPlace p a n) 36 h

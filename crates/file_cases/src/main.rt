@@ -138,7 +138,7 @@ fn put_controller(file: &mut [u8], at: usize)
     put(file, at + 211, 0xff);
 }
 
-// Connector n: one of the lanes of SFF-8470 or of SFF-8484, its name's first letter, and the last reserved byte.
+// Connector n: lanes of SFF-8470 or, of every second phy, of SFF-8484, its name's first letter, and the last reserved byte.
 fn put_connector(file: &mut [u8], at: usize, n: usize)
     requires { ⌜ (at < 131072) × (n < 64) ⌝ }
 {

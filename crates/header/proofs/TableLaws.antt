@@ -15,16 +15,6 @@ use Rattle.level.proofs.BoundLaws.{need-bound, write-need}
 use Rattle.stp.specs.Body.{command}
 use Rattle.header.specs.Table.{structureSize, linkErrorsNeed, need}
 
--- ---- the codes served, one test behind the other
-
-pub or-assoc : (a b c : Bool) → (a || b) || c ≡ a || (b || c)
-or-assoc true b c = refl
-or-assoc false b c = refl
-
-pub or-false : (a : Bool) → a || false ≡ a
-or-false true = refl
-or-false false = refl
-
 -- ---- rooms
 
 -- the structure of a code that was tested

@@ -36,7 +36,7 @@ srbBody buffer = behindHeader srb buffer
 
 -- ---- its checks
 
--- "signature (CSMIALL for code 1, CSMISAS for the rest, then a zero byte)"
+-- "signature (CSMIALL for code 1, CSMISAS for the rest, then a zero byte)"; CSMIALL for 2 and 3 too (`signedAll`)
 unfoldable pub signatureHolds : ℕ → List ℕ → Bool
 signatureHolds code buffer = cond (signedAll code) (sameBytes (signature buffer) csmiAll) (sameBytes (signature buffer) csmiSas)
 

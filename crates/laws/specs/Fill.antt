@@ -115,4 +115,8 @@ module _ {A : Type 0} where
       (λ q. let h : n ≤ i = ltb-false i n q in
       past i h b ∙ sym (getD-past g n N i z d h b)) (ltb i n) refl)
 
+  -- each place is z
+  pub listTo-all : (f : ℕ → A) (N : ℕ) (z : A) → ((i : ℕ) → i < N → f i ≡ z) → listTo f N ≡ replicate N z
+  listTo-all f N z h = filled-as f f 0 N z z (omega arith) (λ i l. refl) (λ i k l. h i l) ∙ sym (padded-none f N z)
+
 pub ruleset fill-loop = (padded-none, padded-more, padded-done, needs)

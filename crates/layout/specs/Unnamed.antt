@@ -1,4 +1,4 @@
--- The bytes of an adapter file that document 01 does not name ("Adapter file"). Assumes nothing.
+-- The bytes of an adapter file that neither document 01 ("Adapter file") nor W-204 names. Assumes nothing.
 use mathlib.Core.Bool.{Bool, _&&_}
 use mathlib.Core.List.{List}
 use Prim.Native.Nat.{ℕ, _+_, _-_, _*_}

@@ -10,6 +10,6 @@ use Rattle.reports.specs.Report.{Report, filled}
 unfoldable pub references : List (List ℕ) → ℕ → List ℕ
 references connectors p = pieces (connectorAt connectors) p 36 32 0
 
--- all of them
+-- they fill the structure
 unfoldable pub connectorInfo : List (List ℕ) → ℕ → List ℕ → Report
 connectorInfo connectors p body = filled (splice body 0 (references connectors p))

@@ -13,7 +13,7 @@ use Rattle.wire.proofs.ZeroLaws.{zero-split, zero-none, zero-one, zero-number, 
 use Rattle.phy.specs.Block.{countersAt, phyOf}
 use Rattle.fields.specs.Rules.{phyZero}
 use Rattle.rows.specs.Row.{zeroFrom, rowsOf, rowsSize}
-use Rattle.connectors.specs.Connector.{connectorsSize, connectorsOf, pinoutsHold, connectorsPast}
+use Rattle.connectors.specs.Connector.{connectorsSize, connectorsOf, connectorsPast}
 use Rattle.adapter.specs.Adapter.{Adapter, phyIn, zeroPast}
 use Rattle.tables.specs.Tables.{tablesSize, phyStart, rowsStart, connectorsStart, phyAt, tablesOf}
 use Rattle.tables.proofs.Laws.{phy-in, rows-in, connectors-in}
@@ -67,15 +67,11 @@ pub rows-past-lent : (t : List ℕ) (a : ℕ) (r : Bool) → r ≡ zeroFrom (row
 unfolding part
 rows-past-lent t a r q = q ∙ rw (rows-in t)
 
-pub connectors-past-lent : (t : List ℕ) (p : ℕ) (r : Bool) → r ≡ connectorsPast (connectorsOf (take connectorsSize (drop connectorsStart t))) p
-    → r ≡ connectorsPast (tablesOf t .connectors) p
+-- any test of the connectors, of their part of the tables
+pub connectors-lent : (test : List (List ℕ) → ℕ → Bool) (t : List ℕ) (p : ℕ) (r : Bool) → r ≡ test (connectorsOf (take connectorsSize (drop connectorsStart t))) p
+    → r ≡ test (tablesOf t .connectors) p
 unfolding part
-connectors-past-lent t p r q = q ∙ rw (connectors-in t)
-
-pub pinouts-lent : (t : List ℕ) (p : ℕ) (r : Bool) → r ≡ pinoutsHold (connectorsOf (take connectorsSize (drop connectorsStart t))) p
-    → r ≡ pinoutsHold (tablesOf t .connectors) p
-unfolding part
-pinouts-lent t p r q = q ∙ rw (connectors-in t)
+connectors-lent test t p r q = q ∙ rw (connectors-in t)
 
 -- all three
 pub past-by : (ad : Adapter) (p a : ℕ) (r s c : Bool) → p ≡ ad .«phy_count» → a ≡ ad .«row_count» → r ≡ physPast (ad .phys) p

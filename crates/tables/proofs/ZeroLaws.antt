@@ -4,7 +4,7 @@ use Prim.Native.Nat.{ℕ, _+_, _<_, _≤_}
 use native.Mathlib.Omega.{arith}
 use lib.ListN.{replicate, getD-replicate}
 use Rattle.laws.specs.Clear.{zeros}
-use Rattle.laws.specs.Fill.{listTo, padded-none, filled-as}
+use Rattle.laws.specs.Fill.{listTo, listTo-all}
 use Rattle.laws.specs.Splice.{part, part-replicate}
 use Rattle.wire.specs.Number.{number}
 use Rattle.phy.specs.Block.{countersAt, phyOf, zeroPhy}
@@ -23,21 +23,17 @@ pub row-zeros : (m at : ℕ) → at + 20 ≤ m → rowOf (zeros m) at ≡ zeroRo
 unfolding rowOf
 row-zeros m at h = rw (part-replicate {A = ℕ} m at 16 0 (omega arith), part-replicate {A = ℕ} m (at + 16) 4 0 (omega arith))
 
--- a list that is z at each place
-all-same : {A : Type 0} (f : ℕ → A) (N : ℕ) (z : A) → ((i : ℕ) → i < N → f i ≡ z) → listTo f N ≡ replicate N z
-all-same f N z h = filled-as f f 0 N z z (omega arith) (λ i l. refl) (λ i k l. h i l) ∙ sym (padded-none f N z)
-
 phys-zeros : listTo (phyAt (zeros tablesSize)) 32 ≡ replicate 32 zeroPhy
 unfolding phyAt
 phys-zeros =
-    all-same (phyAt (zeros tablesSize)) 32 zeroPhy
+    listTo-all (phyAt (zeros tablesSize)) 32 zeroPhy
     (λ i l. ap phyOf (part-replicate tablesSize (phyStart i) 104 0 (omega arith)) ∙ phy-zeros)
 
 rows-zeros : rowsOf (part (zeros tablesSize) rowsStart rowsSize) ≡ replicate 64 zeroRow
 unfolding rowsOf
 rows-zeros =
     ap rowsOf (part-replicate tablesSize rowsStart rowsSize 0 (omega arith))
-    ∙ all-same (λ (i : ℕ). rowOf (zeros rowsSize) (rowStart i)) 64 zeroRow (λ i l. row-zeros rowsSize (rowStart i) (omega arith))
+    ∙ listTo-all (λ (i : ℕ). rowOf (zeros rowsSize) (rowStart i)) 64 zeroRow (λ i l. row-zeros rowsSize (rowStart i) (omega arith))
 
 connectors-zeros : connectorsOf (part (zeros tablesSize) connectorsStart connectorsSize) ≡ replicate 32 zeroConnector
 connectors-zeros = ap connectorsOf (part-replicate tablesSize connectorsStart connectorsSize 0 (omega arith)) ∙ zero-connectors

@@ -3,7 +3,8 @@ use mathlib.Core.Path.{_≡_}
 use mathlib.Core.Bool.{true}
 use Prim.Native.Nat.{ℕ, _-_, _≤_}
 use Rattle.laws.specs.All.{allTo, all-loop}
-use Rattle.connectors.specs.Connector.{connectorsOf, connectorAt, pinoutHolds, pinoutsHold}
+use Rattle.connectors.specs.Pinout.{pinoutHolds}
+use Rattle.connectors.specs.Connector.{connectorsOf, connectorAt, pinoutsHold}
 use Rattle.connectors.proofs.pinouts_hold.Statement.{statement}
 use Rattle.connectors.proofs.pinouts_hold.Tie as tie
 

@@ -1,5 +1,6 @@
 -- `rules::connectors_hold` meets its contract. Assumes nothing.
-use Rattle.rules.proofs.PastLaws.{pinouts-lent}
+use Rattle.connectors.specs.Connector.{pinoutsHold}
+use Rattle.rules.proofs.PastLaws.{connectors-lent}
 use borrow.Author.Needs.{needs}
 use Rattle.rules.proofs.connectors_hold.Statement.{statement}
 use Rattle.rules.proofs.connectors_hold.Tie as tie
@@ -8,4 +9,4 @@ pub connectors-hold-spec : {M : Type 1} → statement M
 connectors-hold-spec =
     tie.close
     (tie.spec (λ c. search needs) (λ c. search needs) (λ c. search needs) (λ c κs. search needs)
-    (λ c. search (pinouts-lent, needs)))
+    (λ c. search (connectors-lent pinoutsHold, needs)))

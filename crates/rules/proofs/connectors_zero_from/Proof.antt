@@ -1,5 +1,6 @@
 -- `rules::connectors_zero_from` meets its contract. Assumes nothing.
-use Rattle.rules.proofs.PastLaws.{connectors-past-lent}
+use Rattle.connectors.specs.Connector.{connectorsPast}
+use Rattle.rules.proofs.PastLaws.{connectors-lent}
 use borrow.Author.Needs.{needs}
 use Rattle.rules.proofs.connectors_zero_from.Statement.{statement}
 use Rattle.rules.proofs.connectors_zero_from.Tie as tie
@@ -8,4 +9,4 @@ pub connectors-zero-from-spec : {M : Type 1} → statement M
 connectors-zero-from-spec =
     tie.close
     (tie.spec (λ c. search needs) (λ c. search needs) (λ c. search needs) (λ c κs. search needs)
-    (λ c. search (connectors-past-lent, needs)))
+    (λ c. search (connectors-lent connectorsPast, needs)))

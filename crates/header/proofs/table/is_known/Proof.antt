@@ -1,7 +1,7 @@
 -- `header::table::is_known` meets its contract. Assumes nothing.
+use mathlib.Core.Bool.{or-assoc, or-false}
 use Rattle.level.specs.Need.{among}
 use Rattle.header.specs.Table.{known}
-use Rattle.header.proofs.TableLaws.{or-assoc, or-false}
 use Rattle.header.proofs.table.is_known.Statement.{statement}
 use Rattle.header.proofs.table.is_known.Tie as tie
 
