@@ -90,15 +90,56 @@ static void neighbours(const struct header *h, int level)
     }
 }
 
-/* The offsets that the header file has in a connector, and the state's own bytes. */
-static void places(void)
+/* The state's own bytes. */
+static void in_the_state(void)
 {
-    const uint8_t *connector = lent.state + ASCHEKNOPF_CONNECTOR(1);
     check("in the state", memcmp(lent.state + ASCHEKNOPF_CONTROLLER, shown[0], 176) == 0
                           && memcmp(lent.state + ASCHEKNOPF_STATUS, shown[1], 36) == 0
                           && memcmp(lent.state + ASCHEKNOPF_CONNECTOR(0), shown[2], sizeof shown[2]) == 0);
-    check("in a connector", ASCHEKNOPF_CONNECTOR_PINOUT == 0 && ASCHEKNOPF_CONNECTOR_NAME == 4 && ASCHEKNOPF_CONNECTOR_LOCATION == 20);
-    check("a pinout", (word(connector) & ~0x000F0F03u) == 0);
+    check("a pinout", (word(lent.state + ASCHEKNOPF_CONNECTOR(1)) & ~0x000F0F03u) == 0);
+}
+
+/* Every place that the header file names in what the pages show, where it is by 6.2.4.3, 6.3.4.1 and 6.18.4.1, packed, and the number that
+   samples/good has there in so many bytes. */
+static const struct place {
+    const char *what;
+    int page;
+    size_t named, at, bytes;
+    uint32_t number;
+} PLACES[] = {
+    {"base I/O", 0, ASCHEKNOPF_CONTROLLER_BASE_IO, 0, 4, 0xD000},
+    {"base memory", 0, ASCHEKNOPF_CONTROLLER_BASE_MEMORY, 4, 4, 0xFE8C0000},
+    {"board", 0, ASCHEKNOPF_CONTROLLER_BOARD, 12, 4, 0x30201000},
+    {"slot", 0, ASCHEKNOPF_CONTROLLER_SLOT, 16, 2, 3},
+    {"class", 0, ASCHEKNOPF_CONTROLLER_CLASS, 18, 1, 5},
+    {"bus type", 0, ASCHEKNOPF_CONTROLLER_BUS_TYPE, 19, 1, 3},
+    {"bus address", 0, ASCHEKNOPF_CONTROLLER_BUS_ADDRESS, 20, 4, 4},
+    {"serial number, CL-0", 0, ASCHEKNOPF_CONTROLLER_SERIAL, 52, 4, 0x302D4C43},
+    {"firmware, 1.26", 0, ASCHEKNOPF_CONTROLLER_FIRMWARE, 133, 4, 0x001A0001},
+    {"BIOS, 6.14", 0, ASCHEKNOPF_CONTROLLER_BIOS, 141, 4, 0x000E0006},
+    {"flags", 0, ASCHEKNOPF_CONTROLLER_FLAGS, 149, 4, 5},
+    {"redundant firmware", 0, ASCHEKNOPF_CONTROLLER_RROM_FIRMWARE, 153, 4, 0},
+    {"redundant BIOS", 0, ASCHEKNOPF_CONTROLLER_RROM_BIOS, 161, 4, 0},
+    {"reserved", 0, ASCHEKNOPF_CONTROLLER_RESERVED, 169, 4, 0},
+    {"status", 1, ASCHEKNOPF_STATUS_STATUS, 0, 4, 1},
+    {"offline reason", 1, ASCHEKNOPF_STATUS_OFFLINE_REASON, 4, 4, 0},
+    {"pinout", 2, ASCHEKNOPF_CONNECTOR_PINOUT, 0, 4, 0x00010000},
+    {"connector, J1", 2, ASCHEKNOPF_CONNECTOR_NAME, 4, 4, 0x0000314A},
+    {"location", 2, ASCHEKNOPF_CONNECTOR_LOCATION, 20, 1, 2},
+};
+
+/* Each by its number, and in the reply under either header. */
+static void places(void)
+{
+    for (size_t i = 0; i < sizeof PLACES / sizeof PLACES[0]; i++) {
+        const struct place *p = &PLACES[i];
+        check(p->what, p->named == p->at);
+        for (int n = 0; n < 2; n++) {
+            const uint8_t *body = ask_under(HEADERS[n], &GRANTED[PAGE[p->page]], 0);
+            uint32_t number = handled_under(HEADERS[n]);
+            check_at(p->what, (uint32_t)n, number == 0 && (word(body + p->named) & (0xFFFFFFFFu >> (32 - 8 * p->bytes))) == p->number);
+        }
+    }
 }
 
 /* An adapter of every number of phys, made in the state: a reference for each, which are all different, and zeros behind them. */
@@ -135,7 +176,7 @@ int main(void)
             open_sample(samples[s], level);
             memset(sound.medium, 0x3C, sizeof sound.medium);
             read_shown();
-            places();
+            in_the_state();
             for (int i = 0; i < 2 * PAGES; i++)
                 replies(HEADERS[i % 2], level, i / 2);
         }
@@ -146,6 +187,8 @@ int main(void)
         neighbours(&FIRST_HEADER, level);
         neighbours(&LINUX_HEADER, level);
     }
+    open_sample("good", 1);
+    places();
     open_sample("good", 0);
     phy_counts();
     return finish();

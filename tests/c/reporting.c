@@ -6,7 +6,7 @@
 
 enum { CODES = 9, ALTERED = 20000 };
 
-static const uint8_t READING[CODES] = {1, 2, 3, 20, 22, 26, 27, 28, 30};
+static const uint8_t REPORTING[CODES] = {1, 2, 3, 20, 22, 26, 27, 28, 30};
 
 /* How often each code was granted under each header, and how often counters were cleared. */
 static uint32_t grants[2][CODES], resets[2];
@@ -14,7 +14,7 @@ static uint32_t grants[2][CODES], resets[2];
 static int place_of(uint8_t code)
 {
     int place = 0;
-    while (place < CODES && READING[place] != code)
+    while (place < CODES && REPORTING[place] != code)
         place++;
     return place;
 }
@@ -102,7 +102,7 @@ int main(void)
         table(REFUSED, REFUSALS, level);
     }
     for (int i = 0; i < 2 * CODES; i++)
-        check_at("granted at times", READING[i / 2], grants[i % 2][i / 2] > 100);
+        check_at("granted at times", REPORTING[i / 2], grants[i % 2][i / 2] > 100);
     check("resets under both headers", resets[0] > 100 && resets[1] > 100);
     return finish();
 }

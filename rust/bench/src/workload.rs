@@ -19,7 +19,7 @@ pub enum Kind {
     /// The same under the Linux header.
     MixedLinux,
     /// What a console begins with, codes 1, 2, 3, 20 and 30 in turn.
-    FrontPage,
+    ConsoleStart,
     /// Passthrough requests of every command code in turn, at level None: all are denied, once the need of the command is known.
     Needs,
 }
@@ -48,15 +48,15 @@ pub const SESSIONS: [(&str, Kind); 15] = [
     ("device-address", Kind::Code(code::DEVICE_ADDRESS)),
     ("mixed", Kind::Mixed),
     ("mixed-linux", Kind::MixedLinux),
-    ("front-page", Kind::FrontPage),
+    ("console-start", Kind::ConsoleStart),
     ("needs", Kind::Needs),
 ];
 
 /// Those of one code or command, of which a mixed session is made.
 const SINGLE: std::ops::RangeInclusive<usize> = 1..=10;
 
-/// The codes of a front page.
-const FRONT_PAGE: [u32; 5] = [
+/// The codes that a console begins with.
+const CONSOLE_START: [u32; 5] = [
     code::DRIVER_INFO,
     code::CNTLR_CONFIG,
     code::CNTLR_STATUS,
@@ -121,7 +121,9 @@ fn request(random: &mut Random, adapter: &Adapter, kind: Kind, at: usize) -> Req
             let first = request(random, adapter, Kind::Mixed, at);
             linux::of_body(first.control(), first.body())
         }
-        Kind::FrontPage => first::sound(random, adapter, FRONT_PAGE[at % FRONT_PAGE.len()]),
+        Kind::ConsoleStart => {
+            first::sound(random, adapter, CONSOLE_START[at % CONSOLE_START.len()])
+        }
         Kind::Needs => passthrough(random, adapter, at as u8),
     }
 }

@@ -15,7 +15,7 @@ use crate::side::{return_code, Side};
 use crate::text::LEVELS;
 
 /// The codes that it speaks of.
-pub const READING: [u32; 9] = [
+pub const REPORTING: [u32; 9] = [
     code::DRIVER_INFO,
     code::CNTLR_CONFIG,
     code::CNTLR_STATUS,
@@ -31,14 +31,14 @@ pub const READING: [u32; 9] = [
 fn speaks_of(request: &Request) -> bool {
     match request.header {
         Header::First if request.is_short() => true,
-        _ => READING.contains(&request.control()),
+        _ => REPORTING.contains(&request.control()),
     }
 }
 
 /// A request of one of these codes, with either header; one in three has a fault.
 pub fn any(random: &mut Random, adapter: &Adapter) -> Request {
     loop {
-        let control = random.pick(&READING);
+        let control = random.pick(&REPORTING);
         let sound = random.pick(&[first::sound, linux::sound]);
         let mut request = sound(random, adapter, control);
         fault::sometimes(random, adapter, &mut request);

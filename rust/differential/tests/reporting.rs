@@ -5,7 +5,7 @@ use differential::case::Case;
 use differential::names::{ata, call, code, set_phy_info, status};
 use differential::need;
 use differential::random::Random;
-use differential::reporting::{any, check, clear, resets, walk, READING};
+use differential::reporting::{any, check, clear, resets, walk, REPORTING};
 use differential::request::passthrough::Passthrough;
 use differential::request::{first, fis, linux, Request};
 use differential::sameness::Lent;
@@ -45,7 +45,7 @@ fn requests_of_these_codes_one_by_one() {
 /// Which codes are granted with which header at which level.
 fn expected() -> BTreeSet<(u32, bool, u8)> {
     let mut expected = BTreeSet::new();
-    for (control, level) in READING
+    for (control, level) in REPORTING
         .into_iter()
         .flat_map(|control| LEVELS.map(|level| (control, level)))
     {

@@ -85,7 +85,7 @@ pub fn left(states: &[&[u8]], media: &[&[u8]]) -> Vec<Left> {
         CONTROLLER,
         CONTROLLER_SIZE,
     );
-    tables("controller ", &STATUS_FIELDS, STATUS, STATUS_SIZE);
+    tables("controller status ", &STATUS_FIELDS, STATUS, STATUS_SIZE);
     for n in 0..PHYS {
         let phy = format!("phy {n} ");
         tables(&phy, &PHY, phy_at(n), PHY_SIZE);
@@ -131,6 +131,7 @@ pub fn sectors(media: &[&[u8]]) -> Vec<(usize, Difference)> {
 mod tests {
     use super::*;
     use library::STATE_SIZE;
+    use std::collections::BTreeSet;
 
     fn groups(found: &[Left]) -> Vec<Group> {
         found.iter().map(|left| left.group).collect()
@@ -146,6 +147,13 @@ mod tests {
             let found = left(&[&state, &other], &[]);
             assert_eq!(found.is_empty(), at == LEVEL, "byte {at}");
         }
+    }
+
+    #[test]
+    fn no_name_twice() {
+        let found = left(&[&[0x11; STATE_SIZE], &[0x2E; STATE_SIZE]], &[]);
+        let names: BTreeSet<&str> = found.iter().map(|l| l.difference.what.as_str()).collect();
+        assert_eq!(names.len(), found.len());
     }
 
     #[test]
@@ -202,7 +210,7 @@ mod tests {
             shown,
             [
                 "controller class: 0 5 (hba)",
-                "controller status: 0 1 (good)",
+                "controller status status: 0 1 (good)",
                 "phy 31 pinout: 0 00010000h (sff-8484-lane-1)"
             ]
         );

@@ -106,8 +106,11 @@ fn upgrade(from: &str, to: &str) -> Result<(), String> {
         }
         made => made.map_err(|error| format!("{to}: {error}"))?,
     };
-    new.write_all(&file)
-        .map_err(|error| format!("{to}: {error}"))
+    new.write_all(&file).map_err(|error| {
+        // the next try would refuse a part of it
+        let _ = fs::remove_file(to);
+        format!("{to}: {error}")
+    })
 }
 
 /// Makes a session from its description.

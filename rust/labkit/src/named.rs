@@ -1,7 +1,7 @@
 //! Numbers that have names: one of a list, as `bus=pci`, or bits that may be set together, as `flags=sas-hba+fwd-support`. A number may
 //! always stand in place of a name.
 
-use crate::value::number;
+use crate::value::{is_number, number};
 
 /// Numbers with their names.
 pub type Names = &'static [(u32, &'static str)];
@@ -11,14 +11,15 @@ pub fn one(text: &str, names: Names, most: u64) -> Result<u32, String> {
     if let Some(found) = names.iter().find(|row| row.1 == text) {
         return Ok(found.0);
     }
-    if text.starts_with(|c: char| c.is_ascii_digit()) {
+    // hexadecimal may begin with a letter
+    if is_number(text) || text.starts_with(|c: char| c.is_ascii_digit()) {
         return Ok(number(text, most)? as u32);
     }
-    // hexadecimal may begin with a letter
-    number(text, most).map(|n| n as u32).map_err(|_| {
-        let known: Vec<&str> = names.iter().map(|row| row.1).collect();
-        format!("'{text}' is no number and none of {}", known.join(", "))
-    })
+    let known: Vec<&str> = names.iter().map(|row| row.1).collect();
+    Err(format!(
+        "'{text}' is no number and none of {}",
+        known.join(", ")
+    ))
 }
 
 /// The bits of all names and numbers that `+` joins.
@@ -76,8 +77,22 @@ mod tests {
             one("three", NAMES, 999),
             Err("'three' is no number and none of one, two, far".to_string())
         );
-        assert_eq!(one("1000", NAMES, 999), Err("1000 is over 999".to_string()));
         assert!(one("", NAMES, 999).is_err() && one("one+two", NAMES, 999).is_err());
+    }
+
+    /// In decimal and in hexadecimal, which may begin with a letter, and over 64 bits.
+    #[test]
+    fn numbers_that_are_too_large() {
+        let long = "F".repeat(17) + "h";
+        for text in ["1000", "3E8h", "FFFh", "fffH", "0FFFh", &long] {
+            let fault = Err(format!("{text} is over 999"));
+            assert_eq!(one(text, NAMES, 999), fault);
+            assert_eq!(bits(&format!("one+{text}"), NAMES, 999), fault);
+        }
+        for text in ["FFF", "h", "Fgh"] {
+            let fault = one(text, NAMES, 999).unwrap_err();
+            assert!(fault.contains(" is no number and none of "), "{fault}");
+        }
     }
 
     #[test]
@@ -94,7 +109,6 @@ mod tests {
         }
         assert_eq!(bits("3+far", NAMES, 999), Ok(0x103));
         assert!(bits("one+", NAMES, 999).is_err());
-        assert!(bits("one+1000", NAMES, 999).is_err());
         assert_eq!(mask(NAMES), 0x103);
         for bit in 0..32 {
             let n = 1 << bit;

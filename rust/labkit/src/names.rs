@@ -1,7 +1,7 @@
 //! The names of numbers: control codes and return codes from 001's section 10, the call's own numbers from document 01, and the
 //! few others that a reply shows.
 
-use crate::named::Names;
+use crate::named::{name, Names};
 
 /// Control codes under their names of section 10, without `CC_CSMI_SAS_` and in lower case.
 pub const CONTROL_CODES: [(u32, &str); 18] = [
@@ -87,14 +87,8 @@ pub const SLOTS: Names = &[(0xFFFF, "unknown")];
 /// bControllerClass.
 pub const CLASSES: Names = &[(5, "hba")];
 
-/// bIoBusType.
-pub const BUSES: Names = &[
-    (0, "isa"),
-    (1, "eisa"),
-    (2, "mca"),
-    (3, "pci"),
-    (4, "pcmcia"),
-];
+/// bIoBusType; section 10 has no other.
+pub const BUSES: Names = &[(3, "pci"), (4, "pcmcia")];
 
 /// uControllerFlags.
 pub const CONTROLLER_FLAGS: Names = &[
@@ -145,12 +139,8 @@ pub const LOCATIONS: Names = &[
     (0x80, "not-connected"),
 ];
 
-fn look_up(table: &[(u32, &'static str)], number: u32) -> Option<&'static str> {
-    table.iter().find(|row| row.0 == number).map(|row| row.1)
-}
-
 pub fn control_name(code: u32) -> Option<&'static str> {
-    look_up(&CONTROL_CODES, code)
+    name(code, &CONTROL_CODES)
 }
 
 pub fn control_code(name: &str) -> Option<u32> {
@@ -162,22 +152,22 @@ pub fn control_code(name: &str) -> Option<u32> {
 
 /// A return code with its name: `2002 phy does not exist`.
 pub fn return_words(code: u32) -> String {
-    with_name(code, look_up(&RETURN_CODES, code))
+    with_name(code, name(code, &RETURN_CODES))
 }
 
 /// A call's own number with its meaning: `100 buffer too short`.
 pub fn call_words(number: u32) -> String {
-    with_name(number, look_up(&CALL_NUMBERS, number))
+    with_name(number, name(number, &CALL_NUMBERS))
 }
 
 /// A link rate with its name: `9 (3.0 Gb/s)`.
 pub fn rate_words(rate: u32) -> String {
-    let name = look_up(&LINK_RATES, rate).unwrap_or("not a rate");
+    let name = name(rate, &LINK_RATES).unwrap_or("not a rate");
     format!("{rate} ({name})")
 }
 
 pub fn device_words(device_type: u32) -> String {
-    match look_up(&DEVICE_TYPES, device_type) {
+    match name(device_type, &DEVICE_TYPES) {
         Some(name) => name.to_string(),
         None => format!("device type {device_type:02X}h"),
     }

@@ -7,18 +7,28 @@ pub const MOST_BYTES: usize = 1 << 20;
 /// A run of equal bytes of this length or more is shown as `XX*N`.
 const SHOWN_AS_RUN: usize = 9;
 
-/// A number up to `most`.
-pub fn number(text: &str, most: u64) -> Result<u64, String> {
+/// The digits of a number and their base; none of what is no number.
+fn digits(text: &str) -> Option<(&str, u32)> {
     let (digits, base) = match text.strip_suffix(['h', 'H']) {
         Some(digits) => (digits, 16),
         None => (text, 10),
     };
     let only_digits = !digits.is_empty() && digits.chars().all(|c| c.is_digit(base));
-    if !only_digits {
+    only_digits.then_some((digits, base))
+}
+
+/// Whether a text is a number, however large.
+pub fn is_number(text: &str) -> bool {
+    digits(text).is_some()
+}
+
+/// A number up to `most`.
+pub fn number(text: &str, most: u64) -> Result<u64, String> {
+    let Some((digits, base)) = digits(text) else {
         return Err(format!(
             "'{text}' is not a number (decimal, or hexadecimal with an h)"
         ));
-    }
+    };
     match u64::from_str_radix(digits, base) {
         Ok(n) if n <= most => Ok(n),
         _ => Err(format!("{text} is over {most}")),

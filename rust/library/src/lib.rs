@@ -3,22 +3,6 @@
 /// The bytes of a state; `include/ascheknopf.h` says what each is.
 pub const STATE_SIZE: usize = 6149;
 
-/// Where a state has the controller's configuration, which code 2 shows.
-pub const CONTROLLER: usize = 4785;
-pub const CONTROLLER_SIZE: usize = 176;
-
-/// Where a state has the controller's status, which code 3 shows.
-pub const STATUS: usize = 4961;
-pub const STATUS_SIZE: usize = 36;
-
-/// Where a state has the connector of phy 0, which code 30 shows; those of the other 31 phys follow.
-pub const CONNECTOR: usize = 4997;
-pub const CONNECTOR_SIZE: usize = 36;
-/// Places in a connector: a pinout of 4 bytes, a name of 16, and a location.
-pub const CONNECTOR_PINOUT: usize = 0;
-pub const CONNECTOR_NAME: usize = 4;
-pub const CONNECTOR_LOCATION: usize = 20;
-
 /// A line of the record that `run` and `run_both` write: two numbers of 32 bits.
 pub mod record {
     /// The call's number.
@@ -45,6 +29,9 @@ pub mod prefix {
 }
 
 mod interface;
+mod tables;
+
+pub use tables::*;
 
 /// Opens an adapter: the call's number. 0 writes the state, a refusal the zero state; a state of another length than
 /// `STATE_SIZE` is 107 and stays.

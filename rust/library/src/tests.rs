@@ -23,8 +23,6 @@ const BOARD: u32 = 0x3220_0E11;
 const GOOD: u32 = 1;
 const LANE_1: u32 = 0x100;
 const INTERNAL: u8 = 2;
-/// Where the subsystem ID stands in the configuration.
-const BOARD_ID: usize = 12;
 
 /// A file of one phy without device and no rows.
 fn file() -> [u8; 4 * BLOCK] {
@@ -34,8 +32,8 @@ fn file() -> [u8; 4 * BLOCK] {
     };
     first[file::PHY_COUNT] = 1;
     second[entity::MINIMUM..=entity::MAXIMUM].copy_from_slice(&RATES);
-    put(controller, BOARD_ID, BOARD);
-    put(controller, CONTROLLER_SIZE, GOOD);
+    put(controller, CONTROLLER_BOARD, BOARD);
+    put(controller, CONTROLLER_SIZE + STATUS_STATUS, GOOD);
     put(connector, CONNECTOR_PINOUT, LANE_1);
     connector[CONNECTOR_LOCATION] = INTERNAL;
     // each check: the words that are not 0, the block's number, and 1
@@ -55,8 +53,8 @@ fn state(level: u8) -> [u8; STATE_SIZE] {
     let mut state = [0; STATE_SIZE];
     (state[at::LEVEL], state[at::PHY_COUNT]) = (level, 1);
     phy(&mut state)[entity::MINIMUM..=entity::MAXIMUM].copy_from_slice(&RATES);
-    put(&mut state, CONTROLLER + BOARD_ID, BOARD);
-    put(&mut state, STATUS, GOOD);
+    put(&mut state, CONTROLLER + CONTROLLER_BOARD, BOARD);
+    put(&mut state, STATUS + STATUS_STATUS, GOOD);
     put(&mut state, CONNECTOR + CONNECTOR_PINOUT, LANE_1);
     state[CONNECTOR + CONNECTOR_LOCATION] = INTERNAL;
     state

@@ -4,7 +4,6 @@ pub mod connector;
 pub mod damage;
 pub mod form;
 pub mod phy;
-pub mod places;
 pub mod row;
 
 use crate::names::{
@@ -12,9 +11,8 @@ use crate::names::{
 };
 use crate::random::Random;
 use connector::Connector;
-pub use labkit::adapter::{check, row_at, seal};
+pub use labkit::adapter::{check, connector_at, controller_at, file_length, row_at, seal};
 use phy::Phy;
-pub use places::{connector_at, controller_at, file_length};
 use row::Row;
 
 #[derive(Clone)]

@@ -4,7 +4,7 @@
 use super::fields::{CONNECTOR, CONTROLLER, DRIVER, ROW, STATUS};
 use super::{
     connector_at, controller_at, front, parse, phy, row_at, status_at, BLOCK, CHECK_AT, DRIVER_AT,
-    MOST_PHYS, MOST_ROWS, ROW_BYTES,
+    DRIVER_BYTES, MOST_PHYS, MOST_ROWS, ROW_BYTES,
 };
 use crate::field::{differences, Field};
 use crate::value::MOST_BYTES;
@@ -45,10 +45,10 @@ fn named(file: &[u8]) -> String {
     let room = whole.len() / BLOCK - 1;
     let phys = usize::from(whole[0]).min(MOST_PHYS).min(room);
     let rows = usize::from(whole[1]).min(MOST_ROWS);
-    let driver = Some(&whole[DRIVER_AT..DRIVER_AT + 174]);
+    let driver = Some(&whole[DRIVER_AT..DRIVER_AT + DRIVER_BYTES]);
     let controller = whole.get(controller_at(phys, rows)..);
     let status = whole.get(status_at(phys, rows)..);
-    let mut text = line("driver", driver, &[0; 174], &DRIVER);
+    let mut text = line("driver", driver, &[0; DRIVER_BYTES], &DRIVER);
     text.push_str(&line(
         "controller",
         controller,

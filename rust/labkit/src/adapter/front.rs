@@ -5,7 +5,7 @@ use super::fields::*;
 use super::{CONNECTOR_BYTES, CONTROLLER_BYTES, STATUS_BYTES};
 use crate::field::Field;
 
-/// The configuration with nothing said: a SAS HBA on PCI. Its slot is unknown, and so, by 6.2.3, is what is 0.
+/// The configuration with nothing said: a SAS HBA on PCI. Its slot is unknown; by 6.2.3 so are serial number and revisions of 0.
 pub fn controller() -> [u8; CONTROLLER_BYTES] {
     let mut info = [0; CONTROLLER_BYTES];
     info[SLOT..SLOT + 2].copy_from_slice(&[0xFF, 0xFF]);

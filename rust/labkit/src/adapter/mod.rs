@@ -26,8 +26,11 @@ pub const MOST_PHYS: usize = 32;
 pub const PROGRAM_PHYS: usize = 7;
 pub const MOST_ROWS: usize = 64;
 
-/// Where the driver info stands in block 0.
+/// Where the driver info stands in block 0, and its bytes.
 const DRIVER_AT: usize = 4;
+pub const DRIVER_BYTES: usize = 174;
+/// The bytes of a PHY_ENTITY, with which a phy's block begins.
+pub const ENTITY_BYTES: usize = 64;
 /// The controller's configuration; its status right behind it in their block; and a connector.
 pub const CONTROLLER_BYTES: usize = 176;
 pub const STATUS_BYTES: usize = 36;

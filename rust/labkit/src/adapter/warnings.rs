@@ -18,8 +18,9 @@ pub fn warnings(file: &[u8], asked_ata: impl Fn(&[u8]) -> bool) -> Vec<String> {
     let count = |at: usize| file.get(at).map_or(0, |count| usize::from(*count));
     let (phys, rows) = (count(0), count(1));
     let mut found = Vec::new();
-    let serial = controller_at(phys, rows) + SERIAL;
-    if file.get(serial..serial + 81).is_some_and(unended) {
+    let controller = controller_at(phys, rows);
+    let serial = file.get(controller + SERIAL..controller + FIRMWARE);
+    if serial.is_some_and(unended) {
         found.push(format!("controller: the serial number {UNENDED}"));
     }
     let blocks = file.chunks_exact(BLOCK).skip(1);

@@ -1,7 +1,7 @@
 //! Where the replies to one request differ, with each run's value: the header's fields, those of the structure by name, the data,
 //! and what no field names.
 
-use crate::adapter::{phy_value, CONNECTOR, CONNECTOR_BYTES, PHY};
+use crate::adapter::{phy_value, CONNECTOR, CONNECTOR_BYTES, ENTITY_BYTES, PHY};
 use crate::field::{Field, Kind};
 use crate::session::{layout, Header, STP_PASSTHRU};
 use crate::value::show_bytes;
@@ -20,8 +20,6 @@ impl Difference {
     }
 }
 
-/// The bytes of a PHY_ENTITY.
-const ENTITY: usize = 64;
 /// Values longer than this are shown from the first byte that differs.
 const WIDEST: usize = 40;
 /// How many bytes are shown of them.
@@ -65,7 +63,9 @@ impl Finder<'_> {
         }
         for field in layout.fields {
             match field.name {
-                "entities" => self.phys(&field_parts(field, &bodies), ENTITY, entity_fields()),
+                "entities" => {
+                    self.phys(&field_parts(field, &bodies), ENTITY_BYTES, entity_fields())
+                }
                 "references" => {
                     self.phys(&field_parts(field, &bodies), CONNECTOR_BYTES, &CONNECTOR)
                 }
@@ -143,7 +143,7 @@ impl Finder<'_> {
 
 /// The fields of an entity.
 fn entity_fields() -> &'static [Field] {
-    let count = PHY.partition_point(|field| field.at + field.size <= ENTITY);
+    let count = PHY.partition_point(|field| field.at + field.size <= ENTITY_BYTES);
     &PHY[..count]
 }
 

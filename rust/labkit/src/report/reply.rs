@@ -1,14 +1,10 @@
 //! A reply in words: the return code, the fields of its structure, and which of them the reply changed.
 
-use crate::adapter::{connector_words, entity_words, CONNECTOR_BYTES};
+use crate::adapter::{connector_words, entity_words, CONNECTOR_BYTES, ENTITY_BYTES, MOST_PHYS};
 use crate::field::Field;
 use crate::names;
 use crate::session::{layout, Header, STP_PASSTHRU};
 use crate::value::{show_bytes, show_code};
-
-/// How many phys a code 20 and a code 30 have room for, and the bytes of a PHY_ENTITY.
-const PHYS: usize = 32;
-const ENTITY: usize = 64;
 
 /// The reply to a request of that header in words, or why the two do not fit.
 pub fn reply(header: Header, request: &[u8], reply: &[u8]) -> Result<String, String> {
@@ -58,12 +54,12 @@ fn title(header: Header, control: u32) -> String {
 fn shown(field: &Field, sent: &[u8], got: &[u8], success: bool) -> String {
     let [before, part] = [sent, got].map(|body| &body[field.at..field.at + field.size]);
     match field.name {
-        "entities" => phys(before, part, ENTITY, got[0].into(), entity_words),
+        "entities" => phys(before, part, ENTITY_BYTES, got[0].into(), entity_words),
         "references" if success => {
             let count = filled(part);
             let behind = count * CONNECTOR_BYTES;
             let rest = match count {
-                PHYS => String::new(),
+                MOST_PHYS => String::new(),
                 _ => row(
                     &others(count),
                     "00*36 each",
@@ -94,9 +90,10 @@ fn filled(references: &[u8]) -> usize {
 
 /// The references from a number on.
 fn others(first: usize) -> String {
+    const LAST: usize = MOST_PHYS - 1;
     match first {
-        31 => "phy 31".to_string(),
-        first => format!("phys {first} to 31"),
+        LAST => format!("phy {LAST}"),
+        first => format!("phys {first} to {LAST}"),
     }
 }
 

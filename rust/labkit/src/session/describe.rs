@@ -161,7 +161,7 @@ linux get-link-errors direction=2 ignored=0102 phy=1 reset=1
 linux stp-passthru phy=01h destination=5000C50000000001 command=30h lba=15 count=1 data=5A*512
 linux stp-passthru direction=1 phy=01h command=20h count=1 data=00*512
 linux get-sata-signature phy=3 buffer=22
-linux get-cntlr-config return-code=1 bus=eisa
+linux get-cntlr-config return-code=1 bus=pcmcia
 linux get-cntlr-status status=good
 linux get-connector-info references=00*1151+FF
 linux firmware-download body=FF+00*43

@@ -1,7 +1,10 @@
 //! Where the fields of a request stand: for each control code the signature, the size and the named fields of its structure, offsets
 //! from the end of the header.
 
-use crate::adapter::{CONTROLLER, DRIVER, ROW, STATUS};
+use crate::adapter::{
+    CONNECTOR_BYTES, CONTROLLER, CONTROLLER_BYTES, DRIVER, DRIVER_BYTES, ENTITY_BYTES, MOST_PHYS,
+    ROW, STATUS, STATUS_BYTES,
+};
 use crate::field::{byte, bytes, code, field, number, Field, Kind};
 
 /// The structure of one control code.
@@ -28,9 +31,9 @@ pub const DATA_LENGTH: Field = number("data-length", 40, 4);
 /// The structure of a control code. A code without a table here has no named fields.
 pub fn layout(control: u32) -> Layout {
     let (signature, size, fields): (_, _, &'static [Field]) = match control {
-        DRIVER_INFO => ("CSMIALL", 174, &DRIVER),
-        CNTLR_CONFIG => ("CSMIALL", 176, &CONTROLLER),
-        CNTLR_STATUS => ("CSMIALL", 36, &STATUS),
+        DRIVER_INFO => ("CSMIALL", DRIVER_BYTES, &DRIVER),
+        CNTLR_CONFIG => ("CSMIALL", CONTROLLER_BYTES, &CONTROLLER),
+        CNTLR_STATUS => ("CSMIALL", STATUS_BYTES, &STATUS),
         4 => ("CSMIALL", 44, &[]),
         10 | 11 => ("CSMIARY", 0, &[]),
         20 => ("CSMISAS", 2052, &PHY_INFO),
@@ -41,7 +44,7 @@ pub fn layout(control: u32) -> Layout {
         26 => ("CSMISAS", 24, &SATA_SIGNATURE),
         27 => ("CSMISAS", 20, &ROW),
         28 => ("CSMISAS", 20, &DEVICE_ADDRESS),
-        CONNECTOR_INFO => ("CSMISAS", 1152, &CONNECTORS),
+        CONNECTOR_INFO => ("CSMISAS", REFERENCES, &CONNECTORS),
         60 => ("CSMIPHY", 56, &[]),
         _ => ("CSMISAS", 0, &[]),
     };
@@ -55,7 +58,7 @@ pub fn layout(control: u32) -> Layout {
 const PHY_INFO: [Field; 3] = [
     byte("phys", 0),
     bytes("reserved", 1, 3),
-    bytes("entities", 4, 2048),
+    bytes("entities", 4, MOST_PHYS * ENTITY_BYTES),
 ];
 
 const PHY_CHANGE: [Field; 6] = [
@@ -111,8 +114,9 @@ const SATA_SIGNATURE: [Field; 3] = [
     bytes("signature-fis", 4, 20),
 ];
 
-/// A connector for each of 32 phys.
-const CONNECTORS: [Field; 1] = [bytes("references", 0, 1152)];
+/// A connector for each phy.
+const REFERENCES: usize = MOST_PHYS * CONNECTOR_BYTES;
+const CONNECTORS: [Field; 1] = [bytes("references", 0, REFERENCES)];
 
 const DEVICE_ADDRESS: [Field; 6] = [
     byte("host", 0),

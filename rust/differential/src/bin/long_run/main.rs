@@ -1,5 +1,5 @@
 //! `long_run [REQUESTS] [SEED]`: random cases through both implementations, by the runs and by the calls, until so many requests were
-//! handled (a million if not said), with the properties of whole runs, of the two headers and of requests that read; then states that a
+//! handled (a million if not said), with the properties of whole runs, of the two headers and of requests that report; then states that a
 //! caller made, every single-byte damage of a small file, and every single byte of two states altered. Prints the figures; the exit status
 //! is 1 if anything differed.
 
@@ -105,11 +105,11 @@ impl Compared {
         }
         println!(
             "{} requests in {round} cases, each by the run and by the calls; two runs and last writers of {} lists more; \
-             {} bodies behind both headers; {} requests that read; {}",
+             {} bodies behind both headers; {} requests that report; {}",
             runs.coverage.requests,
             runs.properties,
             runs.twins,
-            runs.reading,
+            runs.reports,
             seconds(start)
         );
         println!("{}", runs.coverage);

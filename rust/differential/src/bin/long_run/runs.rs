@@ -10,18 +10,18 @@ use differential::side::{CALLS, SIDES};
 use differential::two_runs::{check, check_denied, check_each, check_read_only, Level, Start};
 use differential::{generate, last_writer, reporting, sameness, text};
 
-/// The most requests of a case, the requests of a list, the bodies behind both headers, the requests that read.
+/// The most requests of a case, the requests of a list, the bodies behind both headers, the requests that report.
 const CASE: usize = 120;
 const LIST: usize = 80;
 const TWINS: usize = 40;
-const READING: usize = 40;
+const REPORTS: usize = 40;
 
 #[derive(Default)]
 pub struct Runs {
     pub coverage: Coverage,
     pub properties: u64,
     pub twins: u64,
-    pub reading: u64,
+    pub reports: u64,
     pub faults: Vec<String>,
 }
 
@@ -83,12 +83,12 @@ impl Runs {
         }
     }
 
-    /// Requests that read.
+    /// Requests that report.
     pub fn reporting(&mut self, seed: u64) {
-        self.reading += READING as u64;
+        self.reports += REPORTS as u64;
         for side in CALLS {
-            let left = reporting::walk(side, seed, READING, |_| ());
-            self.note(&format!("seed {seed}, {side:?}, reads only"), left);
+            let left = reporting::walk(side, seed, REPORTS, |_| ());
+            self.note(&format!("seed {seed}, {side:?}, reports only"), left);
         }
     }
 

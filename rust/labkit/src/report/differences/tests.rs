@@ -50,13 +50,14 @@ fn the_phys_of_a_code_20() {
 
 #[test]
 fn a_front_page_by_its_names() {
-    let low = request("get-cntlr-config class=hba bus=pci flags=sas-hba serial=\"A\"");
+    let low = request("get-cntlr-config class=hba flags=sas-hba serial=\"A\"");
     let high = request("get-cntlr-config bus=pci slot=unknown flags=sas-hba+fwd-online");
     assert_eq!(
         lines(&low, &high),
         [
             "slot: 0 | 65535 (unknown)",
             "class: 5 (hba) | 0",
+            "bus: 0 | 3 (pci)",
             "serial: \"A\" | \"\"",
             "flags: 00000001h (sas-hba) | 00020001h (sas-hba+fwd-online)"
         ]
