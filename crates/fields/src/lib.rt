@@ -10,6 +10,8 @@ use phy::Phy;
 use phy::PhyIdentifier;
 use phy::PortIdentifier;
 ghost use mathlib.Core.Path.{_≡_};
+ghost use mathlib.Core.Bool.{_&&_};
+ghost use lib.Dec.{leb};
 ghost use Rattle.wire.specs.Same.{allZero};
 ghost use Rattle.fields.specs.Rules.{isRate, inRange, identifyHolds, rangeHolds, ratesHold, emptyHolds, deviceHolds, attachedHold, heldSignatureHolds, fieldsHold};
 
@@ -47,15 +49,18 @@ fn identify_holds(phy: Phy, n: PhyIdentifier, p: u8) -> bool
     (own.0 == n.0) & (e[CLASS] <= 3) & (port.0 < p)
 }
 
+// Numbers that rise from 8 to 9 are rate codes, so only their order is tested.
 fn rates_hold(phy: Phy) -> bool
     ensures { λ r. ⌜ r ≡ ratesHold phy ⌝ }
 {
     let e = phy.entity;
     let minimum = e[MINIMUM];
     let maximum = e[MAXIMUM];
-    is_rate(minimum % 16)
-        & is_rate(maximum % 16)
-        & in_range(minimum % 16, minimum / 16, maximum / 16, maximum % 16)
+    (codes::LINK_RATE_1_5 <= minimum % 16)
+        & (minimum % 16 <= minimum / 16)
+        & (minimum / 16 <= maximum / 16)
+        & (maximum / 16 <= maximum % 16)
+        & (maximum % 16 <= codes::LINK_RATE_3_0)
 }
 
 fn signature_zero(phy: Phy) -> bool
@@ -84,37 +89,54 @@ fn device_holds(phy: Phy) -> bool
     ((device == codes::END_DEVICE)
         | (device == codes::EDGE_EXPANDER)
         | (device == codes::FANOUT_EXPANDER))
-        & is_rate(phy.lowest)
-        & is_rate(phy.highest)
+        & (codes::LINK_RATE_1_5 <= phy.lowest)
         & (phy.lowest <= phy.highest)
+        & (phy.highest <= codes::LINK_RATE_3_0)
 }
 
-fn attached_holds(phy: Phy) -> bool
-    ensures { λ r. ⌜ r ≡ attachedHold phy ⌝ }
-{
-    if phy.no_device() {
-        return empty_holds(phy);
-    }
-    device_holds(phy)
-}
-
-fn held_signature_holds(phy: Phy) -> bool
-    ensures { λ r. ⌜ r ≡ heldSignatureHolds phy ⌝ }
+// A signature is held by a SATA phy alone, and 0 where none is.
+fn signature_holds(phy: Phy) -> bool
+    ensures { λ r. ⌜ r ≡ (leb (phy .held) 1 && heldSignatureHolds phy) ⌝ }
 {
     if phy.held == 1 {
         return phy.is_sata();
     }
-    signature_zero(phy)
+    (phy.held == 0) & signature_zero(phy)
 }
 
-// The field rules of phy n among p, but for the negotiated rate's.
+// The rules of a phy to which a device is attached.
+fn occupied_holds(phy: Phy) -> bool
+    ensures { λ r. ⌜ r ≡ (deviceHolds phy && (leb (phy .held) 1 && heldSignatureHolds phy)) ⌝ }
+{
+    if device_holds(phy) {
+        return signature_holds(phy);
+    }
+    false
+}
+
+// What is attached, and bytes 100 and 101. Where nothing is attached no signature is held, so byte 100 needs no test of its own.
+fn attached_holds(phy: Phy) -> bool
+    ensures { λ r. ⌜ r ≡ (attachedHold phy && leb (phy .held) 1 && leb (phy .fixed) 1 && heldSignatureHolds phy) ⌝ }
+{
+    if phy.fixed <= 1 {
+        if phy.no_device() {
+            return empty_holds(phy);
+        }
+        return occupied_holds(phy);
+    }
+    false
+}
+
+// The field rules of phy n among p, but for the negotiated rate's. One group is tested behind the other, which is quicker for a sound phy than
+// one test of all.
 pub fn fields_hold(phy: Phy, n: PhyIdentifier, p: u8) -> bool
     ensures { λ r. ⌜ r ≡ fieldsHold phy n p ⌝ }
 {
-    identify_holds(phy, n, p)
-        & rates_hold(phy)
-        & attached_holds(phy)
-        & (phy.held <= 1)
-        & (phy.fixed <= 1)
-        & held_signature_holds(phy)
+    if identify_holds(phy, n, p) {
+        if rates_hold(phy) {
+            return attached_holds(phy);
+        }
+        return false;
+    }
+    false
 }

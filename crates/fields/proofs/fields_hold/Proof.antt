@@ -1,11 +1,12 @@
 -- `fields::fields_hold` meets its contract. Assumes nothing.
-use Rattle.fields.specs.Rules.{fieldsHold}
+use Rattle.laws.specs.Choice.{flag}
+use Rattle.fields.proofs.RulesLaws.{identify-failed, rates-failed, both-passed}
 use borrow.Author.Needs.{needs}
 use Rattle.fields.proofs.fields_hold.Statement.{statement}
 use Rattle.fields.proofs.fields_hold.Tie as tie
 
 pub fields-hold-spec : {M : Type 1} → statement M
-unfolding fieldsHold
 fields-hold-spec =
     tie.close
-    (tie.spec (λ c κs. search needs) (λ c κs. search needs) (λ c κs. search needs) (λ c κs. search needs) (λ c. cc))
+    (tie.spec (λ c κs. search needs) (λ c κs. search needs) (λ c κs. search needs) (λ c. search (both-passed, flag))
+    (λ c. search (rates-failed, flag)) (λ c. search (identify-failed, flag)))
