@@ -27,15 +27,15 @@ pub phy-other : (ad : Adapter) (n m : ℕ) (phy : Phy) → m ≢ n → phyIn (wi
 unfolding withPhy
 phy-other ad n m phy h = getD-set-other (ad .phys) n m phy noPhy h
 
--- the counts, and tables that later proofs ask for
+-- the counts and the rows
 pub counts-stored : (ad : Adapter) (n : ℕ) (phy : Phy)
     → (withPhy ad n phy .«phy_count» ≡ ad .«phy_count») × (withPhy ad n phy .«row_count» ≡ ad .«row_count»)
 unfolding withPhy
 counts-stored ad n phy = (refl, refl)
 
-pub tables-stored : (ad : Adapter) (n : ℕ) (phy : Phy) → (withPhy ad n phy .info ≡ ad .info) × (withPhy ad n phy .rows ≡ ad .rows)
+pub rows-stored : (ad : Adapter) (n : ℕ) (phy : Phy) → withPhy ad n phy .rows ≡ ad .rows
 unfolding withPhy
-tables-stored ad n phy = (refl, refl)
+rows-stored ad n phy = refl
 
 -- the field rules of each phy
 pub fields-at : (ad : Adapter) (n : ℕ) → fieldsAll ad ≡ true → n < ad .«phy_count»

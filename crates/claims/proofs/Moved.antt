@@ -12,7 +12,7 @@ use Rattle.phy.proofs.KeptLaws.{Kept, kept-refl, kept-trans}
 use Rattle.fields.specs.Rules.{fieldsHold}
 use Rattle.rows.specs.Row.{rowsHold}
 use Rattle.adapter.specs.Adapter.{Adapter, phyIn, withPhy, countsHold, fieldsAll, zeroPast}
-use Rattle.adapter.proofs.StoreLaws.{phy-stored, phy-other, counts-stored, tables-stored, fields-at, fields-stored, zero-stored, phys-bound}
+use Rattle.adapter.proofs.StoreLaws.{phy-stored, phy-other, counts-stored, rows-stored, fields-at, fields-stored, zero-stored, phys-bound}
 use Rattle.link.specs.Rule.{negotiatedHolds}
 use Rattle.link.specs.All.{negotiatedAll}
 use Rattle.link.proofs.AllLaws.{negotiated-at, negotiated-stored}
@@ -72,7 +72,7 @@ moved-stored ad n phy h k =
     record {
       count = counts-stored ad n phy .0;
       rowCount = counts-stored ad n phy .1;
-      rows = tables-stored ad n phy .1;
+      rows = rows-stored ad n phy;
       size = length-stored ad n phy;
       phys = stored-by (λ (m : ℕ) (x : Phy). length (phyIn ad m .entity) ≡ 64 → Kept (phyIn ad m) x) ad n phy h (λ _. k) (λ m _ _. kept-refl (phyIn ad m));
     }

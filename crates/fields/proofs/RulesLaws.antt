@@ -139,10 +139,10 @@ module _ (phy : Phy) where
   unfolding attachedHold
   nothing-attached r e f q = q ∙ rw (e, f, and-true) (sym empty-rest)
 
-  pub something-attached : (r : Bool) → leb (phy .fixed) 1 ≡ true → noDevice phy ≡ false → r ≡ deviceHolds phy && (leb (phy .held) 1 && heldSignatureHolds phy)
+  pub device-attached : (r : Bool) → leb (phy .fixed) 1 ≡ true → noDevice phy ≡ false → r ≡ deviceHolds phy && (leb (phy .held) 1 && heldSignatureHolds phy)
       → r ≡ attachedHold phy && leb (phy .held) 1 && leb (phy .fixed) 1 && heldSignatureHolds phy
   unfolding attachedHold
-  something-attached r e f q = q ∙ rw (e, f, and-true) (sym (and-assoc (deviceHolds phy) (leb (phy .held) 1) (heldSignatureHolds phy)))
+  device-attached r e f q = q ∙ rw (e, f, and-true) (sym (and-assoc (deviceHolds phy) (leb (phy .held) 1) (heldSignatureHolds phy)))
 
 module _ (phy : Phy) (n : PhyIdentifier) (p : ℕ) where
   pub identify-failed : identifyHolds phy n p ≡ false → false ≡ fieldsHold phy n p
@@ -153,22 +153,18 @@ module _ (phy : Phy) (n : PhyIdentifier) (p : ℕ) where
   unfolding fieldsHold
   rates-failed e f = rw (e, f) refl
 
-  pub both-passed : (r : Bool) → identifyHolds phy n p ≡ true → ratesHold phy ≡ true
+  pub rates-passed : (r : Bool) → identifyHolds phy n p ≡ true → ratesHold phy ≡ true
       → r ≡ attachedHold phy && leb (phy .held) 1 && leb (phy .fixed) 1 && heldSignatureHolds phy → r ≡ fieldsHold phy n p
   unfolding fieldsHold
-  both-passed r e f q = rw (e, f) q
+  rates-passed r e f q = rw (e, f) q
 
 -- ---- rates that passed fit the programmed half of a byte
-
-rate-below : (code : ℕ) → isRate code ≡ true → code < 16
-unfolding isRate
-rate-below code h =
-    by-bool (λ (t : Bool). eqb code 8 ≡ t → code < 16) (λ p. omega (arith, eqb-true code 8 p))
-    (λ p. omega (arith, eqb-true code 9 (rw p at h))) (eqb code 8) refl
 
 -- where a callee's answer r says so, as `configured` asks it
 pub range-below : (phy : Phy) (minimum maximum : ℕ) (r : Bool) → r ≡ rangeHolds phy minimum maximum → r ≡ true → (minimum < 16) × (maximum < 16)
 unfolding rangeHolds inRange
 range-below phy minimum maximum r e q =
     let h : isRate minimum && isRate maximum ≡ true = both-left _ _ (both-left _ _ (both-left _ _ (sym e ∙ q))) in
-    (rate-below minimum (both-left (isRate minimum) (isRate maximum) h), rate-below maximum (both-right (isRate minimum) (isRate maximum) h))
+    let x = rate-bounds minimum (both-left (isRate minimum) (isRate maximum) h) in
+    let y = rate-bounds maximum (both-right (isRate minimum) (isRate maximum) h) in
+    (omega (arith, x .1), omega (arith, y .1))

@@ -94,7 +94,7 @@ fn device_holds(phy: Phy) -> bool
         & (phy.highest <= codes::LINK_RATE_3_0)
 }
 
-// A signature is held by a SATA phy alone, and 0 where none is.
+// A SATA phy alone holds a signature, and its bytes are 0 where none is held.
 fn signature_holds(phy: Phy) -> bool
     ensures { λ r. ⌜ r ≡ (leb (phy .held) 1 && heldSignatureHolds phy) ⌝ }
 {
@@ -105,7 +105,7 @@ fn signature_holds(phy: Phy) -> bool
 }
 
 // The rules of a phy to which a device is attached.
-fn occupied_holds(phy: Phy) -> bool
+fn with_device_holds(phy: Phy) -> bool
     ensures { λ r. ⌜ r ≡ (deviceHolds phy && (leb (phy .held) 1 && heldSignatureHolds phy)) ⌝ }
 {
     if device_holds(phy) {
@@ -122,7 +122,7 @@ fn attached_holds(phy: Phy) -> bool
         if phy.no_device() {
             return empty_holds(phy);
         }
-        return occupied_holds(phy);
+        return with_device_holds(phy);
     }
     false
 }

@@ -1,0 +1,10 @@
+-- `fields::with_device_holds` meets its contract. Assumes nothing.
+use Rattle.laws.specs.Choice.{and-then, and-not, flag}
+use borrow.Author.Needs.{needs}
+use Rattle.fields.proofs.with_device_holds.Statement.{statement}
+use Rattle.fields.proofs.with_device_holds.Tie as tie
+
+pub with-device-holds-spec : {M : Type 1} → statement M
+with-device-holds-spec =
+    tie.close
+    (tie.spec (λ c κs. search needs) (λ c κs. search needs) (λ c. search (and-then, flag)) (λ c. search (and-not, flag)))
