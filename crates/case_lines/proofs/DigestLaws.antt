@@ -20,7 +20,7 @@ unfolding steps
 steps-more f d k r x p q = rw add-one (q ∙ ap (λ (y : ℕ). f y k) p)
 
 -- the same where the phy is lent
-pub phys-more : (phys : List ℕ) (d n r x : ℕ) → r ≡ steps (phyStep phys) d n → x ≡ phyDigest r (take (104 * n + 104 - 104 * n) (drop (104 * n) phys))
+pub phys-more : (phys : List ℕ) (d n r x : ℕ) → r ≡ steps (phyStep phys) d n → x ≡ phyDigest r (take (105 * n + 105 - 105 * n) (drop (105 * n) phys))
     → x ≡ steps (phyStep phys) d (n + 1)
 unfolding part
 phys-more phys d n r x p q = steps-more (phyStep phys) d n r x p (rw add-sub-cancel-left at q)
@@ -36,8 +36,8 @@ pub ruleset steps-loop = (steps-none, steps-more, phys-more, digest-done, steps-
 
 -- ---- one call after the other
 
-pub state-by : (a b r : ℕ) (s : List ℕ) → a ≡ digestOf 1 (part s 0 177) → b ≡ steps (phyStep (part s 177 3328)) a 32 → r ≡ digestOf b (part s 3505 2644)
+pub state-by : (a b r : ℕ) (s : List ℕ) → a ≡ digestOf 1 (part s 0 177) → b ≡ steps (phyStep (part s 177 3360)) a 32 → r ≡ digestOf b (part s 3537 2644)
     → r ≡ stateDigest s
 unfolding stateDigest
 state-by a b r s p q t =
-    t ∙ ap (λ (x : ℕ). digestOf x (part s 3505 2644)) (q ∙ ap (λ (x : ℕ). steps (phyStep (part s 177 3328)) x 32) p)
+    t ∙ ap (λ (x : ℕ). digestOf x (part s 3537 2644)) (q ∙ ap (λ (x : ℕ). steps (phyStep (part s 177 3360)) x 32) p)

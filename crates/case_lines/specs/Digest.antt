@@ -29,12 +29,12 @@ countersDigest d phy =
 
 -- a phy, its counters behind its other bytes
 unfoldable pub phyDigest : ℕ → List ℕ → ℕ
-phyDigest d phy = countersDigest (digestOf (digestOf d (part phy 0 64)) (part phy 80 24)) phy
+phyDigest d phy = countersDigest (digestOf (digestOf d (part phy 0 64)) (part phy 80 25)) phy
 
 -- one phy of 32
 abbrev pub phyStep : List ℕ → ℕ → ℕ → ℕ
-phyStep phys d n = phyDigest d (part phys (104 * n) 104)
+phyStep phys d n = phyDigest d (part phys (105 * n) 105)
 
 -- the level, the counts and the driver info, the phys, and what stands behind them: rows, configuration, status and connectors
 unfoldable pub stateDigest : List ℕ → ℕ
-stateDigest s = digestOf (steps (phyStep (part s 177 3328)) (digestOf 1 (part s 0 177)) 32) (part s 3505 2644)
+stateDigest s = digestOf (steps (phyStep (part s 177 3360)) (digestOf 1 (part s 0 177)) 32) (part s 3537 2644)

@@ -13,15 +13,15 @@ use Rattle.case_lines.specs.Patch.{patched}
 
 -- y PHY AT:HEX ..: the phy of a block that has these bytes
 unfoldable pub phyLine : List ℕ → List ℕ → List ℕ
-phyLine state s = splice state (177 + 104 * (fieldOf s 1 % 32)) (patched (zeros 104) s 2)
+phyLine state s = splice state (177 + 105 * (fieldOf s 1 % 32)) (patched (zeros 105) s 2)
 
 -- w ROW AT:HEX ..: the row that has these bytes
 unfoldable pub rowLine : List ℕ → List ℕ → List ℕ
-rowLine state s = splice state (3505 + 20 * (fieldOf s 1 % 64)) (patched (zeros 20) s 2)
+rowLine state s = splice state (3537 + 20 * (fieldOf s 1 % 64)) (patched (zeros 20) s 2)
 
 -- c PHY AT:HEX ..: the connector that has these bytes
 unfoldable pub connectorLine : List ℕ → List ℕ → List ℕ
-connectorLine state s = splice state (4997 + 36 * (fieldOf s 1 % 32)) (patched (zeros 36) s 2)
+connectorLine state s = splice state (5029 + 36 * (fieldOf s 1 % 32)) (patched (zeros 36) s 2)
 
 -- l LEVEL PHYS ROWS: another level and other counts
 unfoldable pub countLine : List ℕ → List ℕ → List ℕ

@@ -33,7 +33,7 @@ fn phy_line(state: &mut [u8], s: &[u8])
     requires { ⌜ length (now state) ≡ stateSize ⌝ }
     ensures { λ _. ⌜ now (state .exit) ≡ phyLine (now (state .entry)) (now (s .entry)) ⌝ }
 {
-    put_at(state, PHYS + 104 * (field(s, 1) % 32) as usize, 104, s);
+    put_at(state, PHYS + 105 * (field(s, 1) % 32) as usize, 105, s);
 }
 
 fn row_line(state: &mut [u8], s: &[u8])

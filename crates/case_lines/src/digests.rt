@@ -33,7 +33,7 @@ pub fn digest(before: u64, s: &[u8]) -> u64
 
 // The four counters of a phy, each a number.
 fn mixed_counters(d: u64, phy: &[u8]) -> u64
-    requires { ⌜ length (now phy) ≡ 104 ⌝ }
+    requires { ⌜ length (now phy) ≡ 105 ⌝ }
     ensures { λ r. ⌜ r ≡ countersDigest d (now (phy .entry)) ⌝ }
 {
     let two = mixed(mixed(d, wire::read32(phy, 64)), wire::read32(phy, 68));
@@ -42,20 +42,20 @@ fn mixed_counters(d: u64, phy: &[u8]) -> u64
 
 // A phy, its counters behind its other bytes.
 fn mixed_phy(before: u64, phy: &[u8]) -> u64
-    requires { ⌜ length (now phy) ≡ 104 ⌝ }
+    requires { ⌜ length (now phy) ≡ 105 ⌝ }
     ensures { λ r. ⌜ r ≡ phyDigest before (now (phy .entry)) ⌝ }
 {
-    mixed_counters(digest(digest(before, &phy[0..64]), &phy[80..104]), phy)
+    mixed_counters(digest(digest(before, &phy[0..64]), &phy[80..105]), phy)
 }
 
 fn mixed_phys(before: u64, phys: &[u8]) -> u64
-    requires { ⌜ length (now phys) ≡ 3328 ⌝ }
+    requires { ⌜ length (now phys) ≡ 3360 ⌝ }
     ensures { λ r. ⌜ r ≡ steps (phyStep (now (phys .entry))) before 32 ⌝ }
 {
     let mut d = before;
     let mut n = 0;
     while n < 32 {
-        d = mixed_phy(d, &phys[104 * n..104 * n + 104]);
+        d = mixed_phy(d, &phys[105 * n..105 * n + 105]);
         n += 1;
     }
     d

@@ -16,6 +16,6 @@ pub use line::word;
 // rows and connectors the controller's configuration and status.
 const PHYS: usize = 177;
 
-const ROWS: usize = 3505;
+const ROWS: usize = 3537;
 
-const CONNECTORS: usize = 4997;
+const CONNECTORS: usize = 5029;

@@ -48,6 +48,10 @@ phyDisabled = 1
 abbrev pub linkRateFailed : ℕ
 linkRateFailed = 2
 
+-- "3, spin-up hold (6.7.3)"
+abbrev pub sataSpinupHold : ℕ
+sataSpinupHold = 3
+
 -- "Rate codes are 8 (1.5 Gb/s) and 9 (3.0)"
 abbrev pub linkRate15 : ℕ
 linkRate15 = 8

@@ -28,6 +28,8 @@ pub const PHY_DISABLED: u8 = 1;
 
 pub const LINK_RATE_FAILED: u8 = 2;
 
+pub const SATA_SPINUP_HOLD: u8 = 3;
+
 pub const LINK_RATE_1_5: u8 = 8;
 
 pub const LINK_RATE_3_0: u8 = 9;

@@ -7,14 +7,14 @@ use lib.ListN.{length}
 use Rattle.laws.specs.Choice.{both, both-left, both-right}
 use Rattle.phy.specs.declared.Phy.{Phy}
 use Rattle.phy.specs.declared.PhyIdentifier.{PhyIdentifier}
-use Rattle.phy.specs.Entity.{identifierOf, classOf, portOf, hardwareMinimum, hardwareMaximum, programmedMinimum, programmedMaximum}
-use Rattle.phy.specs.Change.{cleared, configured}
-use Rattle.fields.specs.Rules.{isRate, identifyHolds, rangeHolds, ratesHold, emptyHolds, deviceHolds, attachedHold, heldSignatureHolds, fieldsHold}
+use Rattle.phy.specs.Entity.{identifierOf, classOf, portOf, hardwareMinimum, hardwareMaximum, programmedMinimum, programmedMaximum, attachedOf, attachedType, noDevice, isSata}
+use Rattle.phy.specs.Change.{released, cleared, configured}
+use Rattle.fields.specs.Rules.{isRate, identifyHolds, rangeHolds, ratesHold, emptyHolds, deviceHolds, attachedHold, heldSignatureHolds, holdAllowed, fieldsHold}
 use Rattle.phy.proofs.KeptLaws.{Kept, Settings}
-use Rattle.phy.proofs.ChangedLaws.{kept-configured, class-configured, minimum-configured, maximum-configured, kept-cleared, settings-cleared}
+use Rattle.phy.proofs.ChangedLaws.{kept-configured, hold-configured, class-configured, minimum-configured, maximum-configured, kept-released, kept-cleared, settings-cleared}
 
 pub fields-kept : (a b : Phy) (n : PhyIdentifier) (p : ℕ) → Kept a b → Settings a b → fieldsHold b n p ≡ fieldsHold a n p
-unfolding fieldsHold identifyHolds ratesHold rangeHolds attachedHold emptyHolds deviceHolds heldSignatureHolds
+unfolding fieldsHold identifyHolds ratesHold rangeHolds attachedHold emptyHolds deviceHolds heldSignatureHolds holdAllowed
 fields-kept a b n p k s = cc
 
 range-kept : (a b : Phy) (minimum maximum : ℕ) → Kept a b → rangeHolds b minimum maximum ≡ rangeHolds a minimum maximum
@@ -23,6 +23,19 @@ range-kept a b minimum maximum k = cc
 
 pub fields-cleared : (phy : Phy) (n : PhyIdentifier) (p : ℕ) → fieldsHold (cleared phy) n p ≡ fieldsHold phy n p
 fields-cleared phy n p = fields-kept phy (cleared phy) n p (kept-cleared phy) (settings-cleared phy)
+
+-- ---- no longer held at spin-up
+
+module _ (phy : Phy) where
+  pub range-released : (minimum maximum : ℕ) → rangeHolds (released phy) minimum maximum ≡ rangeHolds phy minimum maximum
+  range-released minimum maximum = range-kept phy (released phy) minimum maximum (kept-released phy)
+
+  -- any phy may be released
+  pub fields-released : (n : PhyIdentifier) (p : ℕ) → fieldsHold phy n p ≡ true → fieldsHold (released phy) n p ≡ true
+  unfolding released fieldsHold identifyHolds ratesHold rangeHolds attachedHold emptyHolds deviceHolds heldSignatureHolds holdAllowed identifierOf classOf portOf hardwareMinimum hardwareMaximum programmedMinimum programmedMaximum attachedOf attachedType noDevice isSata
+  fields-released n p f =
+      let rest : Bool = identifyHolds phy n p && ratesHold phy && attachedHold phy && leb (phy .held) 1 && leb (phy .fixed) 1 && heldSignatureHolds phy in
+      both rest true (both-left rest (holdAllowed phy) f) refl
 
 -- ---- another class and other programmed rates
 
@@ -33,9 +46,9 @@ exchanged-middle a x y b q p = both (a && y) b (both a y (both-left a x (both-le
 exchanged-last : (a x y : Bool) → y ≡ true → a && x ≡ true → a && y ≡ true
 exchanged-last a x y q p = both a y (both-left a x p) q
 
-exchanged-first : (x y a h f s : Bool) → (x ≡ true → y ≡ true) → x && a && h && f && s ≡ true → y && a && h && f && s ≡ true
-exchanged-first true y a h f s q p = rw (q refl) p
-exchanged-first false y a h f s q p = absurd (false≢true p)
+exchanged-first : (x y a h f s t : Bool) → (x ≡ true → y ≡ true) → x && a && h && f && s && t ≡ true → y && a && h && f && s && t ≡ true
+exchanged-first true y a h f s t q p = rw (q refl) p
+exchanged-first false y a h f s t q p = absurd (false≢true p)
 
 identify-by : (a b : Phy) (n : PhyIdentifier) (p : ℕ) → Kept a b → leb (classOf b) 3 ≡ true → identifyHolds a n p ≡ true → identifyHolds b n p ≡ true
 unfolding identifyHolds
@@ -51,12 +64,12 @@ rates-by a b k r h =
     (exchanged-last (isRate (hardwareMinimum a) && isRate (hardwareMaximum a)) (rangeHolds a (programmedMinimum a) (programmedMaximum a))
     (rangeHolds b (programmedMinimum b) (programmedMaximum b)) e h)
 
-fields-by : (a b : Phy) (n : PhyIdentifier) (p : ℕ) → Kept a b → leb (classOf b) 3 ≡ true
+fields-by : (a b : Phy) (n : PhyIdentifier) (p : ℕ) → Kept a b → b .«spinup_hold» ≡ a .«spinup_hold» → leb (classOf b) 3 ≡ true
     → rangeHolds a (programmedMinimum b) (programmedMaximum b) ≡ true → fieldsHold a n p ≡ true → fieldsHold b n p ≡ true
-unfolding fieldsHold attachedHold emptyHolds deviceHolds heldSignatureHolds
-fields-by a b n p k c r f =
+unfolding fieldsHold attachedHold emptyHolds deviceHolds heldSignatureHolds holdAllowed
+fields-by a b n p k g c r f =
     cc
-    (exchanged-first (identifyHolds a n p && ratesHold a) (identifyHolds b n p && ratesHold b) (attachedHold a) (leb (a .held) 1) (leb (a .fixed) 1) (heldSignatureHolds a)
+    (exchanged-first (identifyHolds a n p && ratesHold a) (identifyHolds b n p && ratesHold b) (attachedHold a) (leb (a .held) 1) (leb (a .fixed) 1) (heldSignatureHolds a) (holdAllowed a)
     (λ h. both (identifyHolds b n p) (ratesHold b) (identify-by a b n p k c (both-left (identifyHolds a n p) (ratesHold a) h))
     (rates-by a b k r (both-right (identifyHolds a n p) (ratesHold a) h)))
     f)
@@ -65,6 +78,6 @@ fields-by a b n p k c r f =
 pub fields-configured : (phy : Phy) (class minimum maximum : ℕ) (n : PhyIdentifier) (p : ℕ) → length (phy .entity) ≡ 64 → leb class 3 ≡ true
     → rangeHolds phy minimum maximum ≡ true → fieldsHold phy n p ≡ true → fieldsHold (configured phy class minimum maximum) n p ≡ true
 fields-configured phy class minimum maximum n p e c r f =
-    fields-by phy (configured phy class minimum maximum) n p (kept-configured phy class minimum maximum e)
+    fields-by phy (configured phy class minimum maximum) n p (kept-configured phy class minimum maximum e) (hold-configured phy class minimum maximum)
     (rw (class-configured phy class minimum maximum e) c)
     (rw (minimum-configured phy class minimum maximum e, maximum-configured phy class minimum maximum e) r) f

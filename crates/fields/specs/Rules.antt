@@ -50,10 +50,20 @@ attachedHold phy = cond (noDevice phy) (emptyHolds phy) (deviceHolds phy)
 unfoldable pub heldSignatureHolds : Phy → Bool
 heldSignatureHolds phy = cond (eqb (phy .held) 1) (isSata phy) (allZero (phy .signature))
 
+-- W-205: "Byte 104 of a phy block, so far 0, may be 1 on a SATA phy"
+unfoldable pub holdAllowed : Phy → Bool
+holdAllowed phy = eqb (phy .«spinup_hold») 0 || (eqb (phy .«spinup_hold») 1 && isSata phy)
+
 -- the field rules of phy n among p, but for the negotiated rate's; "signature held (0/1)", "fixed (0/1)"
 unfoldable pub fieldsHold : Phy → PhyIdentifier → ℕ → Bool
 fieldsHold phy n p =
-    identifyHolds phy n p && ratesHold phy && attachedHold phy && leb (phy .held) 1 && leb (phy .fixed) 1 && heldSignatureHolds phy
+    identifyHolds phy n p
+    && ratesHold phy
+    && attachedHold phy
+    && leb (phy .held) 1
+    && leb (phy .fixed) 1
+    && heldSignatureHolds phy
+    && holdAllowed phy
 
 -- "zero past p": every byte and every counter is 0
 unfoldable pub phyZero : Phy → Bool
@@ -65,3 +75,4 @@ phyZero phy =
     && eqb (phy .fixed) 0
     && eqb (phy .lowest) 0
     && eqb (phy .highest) 0
+    && eqb (phy .«spinup_hold») 0

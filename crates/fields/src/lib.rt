@@ -13,7 +13,7 @@ ghost use mathlib.Core.Path.{_≡_};
 ghost use mathlib.Core.Bool.{_&&_};
 ghost use lib.Dec.{leb};
 ghost use Rattle.wire.specs.Same.{allZero};
-ghost use Rattle.fields.specs.Rules.{isRate, inRange, identifyHolds, rangeHolds, ratesHold, emptyHolds, deviceHolds, attachedHold, heldSignatureHolds, fieldsHold};
+ghost use Rattle.fields.specs.Rules.{isRate, inRange, identifyHolds, rangeHolds, ratesHold, emptyHolds, deviceHolds, attachedHold, heldSignatureHolds, holdAllowed, fieldsHold};
 
 // A rate code: 1.5 or 3.0 Gb/s.
 pub fn is_rate(code: u8) -> bool
@@ -114,11 +114,21 @@ fn with_device_holds(phy: Phy) -> bool
     false
 }
 
-// What is attached, and bytes 100 and 101. Where nothing is attached no signature is held, so byte 100 needs no test of its own.
-fn attached_holds(phy: Phy) -> bool
-    ensures { λ r. ⌜ r ≡ (attachedHold phy && leb (phy .held) 1 && leb (phy .fixed) 1 && heldSignatureHolds phy) ⌝ }
+// A SATA phy alone may be held at spin-up.
+fn hold_allowed(phy: Phy) -> bool
+    ensures { λ r. ⌜ r ≡ holdAllowed phy ⌝ }
 {
-    if phy.fixed <= 1 {
+    if phy.spinup_hold == 0 {
+        return true;
+    }
+    (phy.spinup_hold == 1) & phy.is_sata()
+}
+
+// What is attached, and bytes 100, 101 and 104. Where nothing is attached no signature is held, so byte 100 needs no test of its own.
+fn attached_holds(phy: Phy) -> bool
+    ensures { λ r. ⌜ r ≡ (attachedHold phy && leb (phy .held) 1 && leb (phy .fixed) 1 && heldSignatureHolds phy && holdAllowed phy) ⌝ }
+{
+    if (phy.fixed <= 1) & hold_allowed(phy) {
         if phy.no_device() {
             return empty_holds(phy);
         }

@@ -8,31 +8,31 @@ use lib.ListN.{length, getD}
 use Rattle.laws.specs.Fill.{listTo, padded, filled-as}
 use Rattle.laws.specs.Flat.{length-pieces, piece-at, piece-past}
 use Rattle.laws.specs.Splice.{part, splice, length-part, getD-part, part-part, length-splice, part-splice, part-in, part-below, get-in, get-below}
-use Rattle.phy.specs.Block.{countersAt, phyOf, zeroPhy, noPhy}
+use Rattle.phy.specs.Block.{phySize, countersAt, phyOf, zeroPhy, noPhy}
 use Rattle.rows.specs.Row.{rowOf, rowsSize, rowStart, rowsOf, zeroRow, noRow}
 use Rattle.rows.proofs.ReadLaws.{row-part}
 use Rattle.block.specs.Check.{blockAt}
 use Rattle.connectors.specs.Connector.{connectorsSize, connectorOf, connectorsOf, zeroConnector}
 use Rattle.layout.specs.Layout.{phyPlace, rowPlace, controllerPlace, controllerStatusPlace, connectorPlace, fileLength}
-use Rattle.tables.specs.Tables.{tablesSize, phyStart, rowsStart, controllerStart, statusStart, connectorsStart, phyAt, tablesOf}
+use Rattle.tables.specs.Tables.{tablesSize, physSize, phyStart, rowsStart, controllerStart, statusStart, connectorsStart, phyAt, tablesOf}
 use Rattle.tables.proofs.ZeroLaws.{phy-zeros, row-zeros}
 use Rattle.file.specs.File.{filePhy, fileRow, fileConnector, adapterOf}
 use Rattle.file.specs.Parse.{headed, phyFrom, physFrom, rowFrom, rowsFrom, controlled, connectorsFrom}
 
 -- ---- a phy and a row in a piece
 
--- a phy stands in the first 104 bytes of its block
-phy-front : (b : List ℕ) → phyOf (part b 0 104) ≡ phyOf b
+-- a phy stands in the first 105 bytes of its block
+phy-front : (b : List ℕ) → phyOf (part b 0 phySize) ≡ phyOf b
 unfolding phyOf countersAt
 phy-front b =
-    rw (part-part b 0 104 0 64 (omega arith), part-part b 0 104 64 4 (omega arith), part-part b 0 104 68 4 (omega arith))
-    (rw (part-part b 0 104 72 4 (omega arith), part-part b 0 104 76 4 (omega arith), part-part b 0 104 80 20 (omega arith))
-    (rw (getD-part b 0 104 100 0 (omega arith), getD-part b 0 104 101 0 (omega arith), getD-part b 0 104 102 0 (omega arith))
-    (rw (getD-part b 0 104 103 0 (omega arith)))))
+    rw (part-part b 0 phySize 0 64 (omega arith), part-part b 0 phySize 64 4 (omega arith), part-part b 0 phySize 68 4 (omega arith))
+    (rw (part-part b 0 phySize 72 4 (omega arith), part-part b 0 phySize 76 4 (omega arith), part-part b 0 phySize 80 20 (omega arith))
+    (rw (getD-part b 0 phySize 100 0 (omega arith), getD-part b 0 phySize 101 0 (omega arith), getD-part b 0 phySize 102 0 (omega arith))
+    (rw (getD-part b 0 phySize 103 0 (omega arith), getD-part b 0 phySize 104 0 (omega arith)))))
 
 phy-file : (file : List ℕ) (n : ℕ) → phyOf (phyFrom file n) ≡ filePhy file n
 unfolding phyFrom filePhy blockAt
-phy-file file n = ap phyOf (sym (part-part file (phyPlace n) 512 0 104 (omega arith) ∙ rw add-zero)) ∙ phy-front (part file (phyPlace n) 512)
+phy-file file n = ap phyOf (sym (part-part file (phyPlace n) 512 0 phySize (omega arith) ∙ rw add-zero)) ∙ phy-front (part file (phyPlace n) 512)
 
 row-file : (file : List ℕ) (p i : ℕ) → rowOf (rowFrom file p i) 0 ≡ fileRow file p i
 unfolding rowFrom fileRow
@@ -45,17 +45,17 @@ row-alone b at = sym (row-part b at 20 0 (omega arith) ∙ rw add-zero)
 -- ---- the tables
 
 module _ (t file : List ℕ) (p a : ℕ) (size : length t ≡ tablesSize) (k : p ≤ 32) (l : a ≤ 64) (m : length file ≡ fileLength p a) where
-  phy-long : (i : ℕ) → i < p → length (phyFrom file i) ≡ 104
+  phy-long : (i : ℕ) → i < p → length (phyFrom file i) ≡ phySize
   unfolding phyFrom
-  phy-long i h = length-part file (phyPlace i) 104 (omega arith)
+  phy-long i h = length-part file (phyPlace i) phySize (omega arith)
 
   row-long : (i : ℕ) → i < a → length (rowFrom file p i) ≡ 20
   unfolding rowFrom
   row-long i h = length-part file (rowPlace p i) 20 (omega arith)
 
-  phys-long : length (physFrom file p) ≡ 3328
+  phys-long : length (physFrom file p) ≡ physSize
   unfolding physFrom
-  phys-long = length-pieces (phyFrom file) 104 p 32 0 phy-long k
+  phys-long = length-pieces (phyFrom file) phySize p 32 0 phy-long k
 
   rows-long : length (rowsFrom file p a) ≡ rowsSize
   unfolding rowsFrom
@@ -185,11 +185,11 @@ module _ (t file : List ℕ) (p a : ℕ) (size : length t ≡ tablesSize) (k : p
       ∙ ap (part (headed t file p a) 2) (sym info-long)
       ∙ part-splice (splice t 0 (p ∷ a ∷ [])) 2 (part file 4 174) (omega (arith, counted-long))
 
-  phy-part : (n : ℕ) → n < 32 → part read (phyStart n) 104 ≡ part (physFrom file p) (104 * n) 104
+  phy-part : (n : ℕ) → n < 32 → part read (phyStart n) phySize ≡ part (physFrom file p) (phySize * n) phySize
   phy-part n h =
-      low-part (phyStart n) 104 (omega arith)
-      ∙ part-below manned rowsStart (rowsFrom file p a) (phyStart n) 104 (omega (arith, manned-long)) (omega arith)
-      ∙ part-in (headed t file p a) 176 (physFrom file p) (104 * n) 104 (omega (arith, headed-long)) (omega (arith, phys-long))
+      low-part (phyStart n) phySize (omega arith)
+      ∙ part-below manned rowsStart (rowsFrom file p a) (phyStart n) phySize (omega (arith, manned-long)) (omega arith)
+      ∙ part-in (headed t file p a) 176 (physFrom file p) (phySize * n) phySize (omega (arith, headed-long)) (omega (arith, phys-long))
 
   rows-part : part read rowsStart rowsSize ≡ rowsFrom file p a
   rows-part =
@@ -200,11 +200,11 @@ module _ (t file : List ℕ) (p a : ℕ) (size : length t ≡ tablesSize) (k : p
   -- the phys
   phy-below : (n : ℕ) → n < p → phyAt read n ≡ filePhy file n
   unfolding phyAt physFrom
-  phy-below n h = ap phyOf (phy-part n (omega arith) ∙ piece-at (phyFrom file) 104 p 32 0 phy-long k n h) ∙ phy-file file n
+  phy-below n h = ap phyOf (phy-part n (omega arith) ∙ piece-at (phyFrom file) phySize p 32 0 phy-long k n h) ∙ phy-file file n
 
   phy-past : (n : ℕ) → p ≤ n → n < 32 → phyAt read n ≡ zeroPhy
   unfolding phyAt physFrom
-  phy-past n h j = ap phyOf (phy-part n j ∙ piece-past (phyFrom file) 104 p 32 0 phy-long k n h j) ∙ phy-zeros
+  phy-past n h j = ap phyOf (phy-part n j ∙ piece-past (phyFrom file) phySize p 32 0 phy-long k n h j) ∙ phy-zeros
 
   phys-read : listTo (phyAt read) 32 ≡ padded (filePhy file) p 32 zeroPhy
   phys-read = filled-as (phyAt read) (filePhy file) p 32 zeroPhy noPhy k phy-below phy-past
@@ -230,5 +230,5 @@ pub part-copied : (file d s : List ℕ) (at from place n : ℕ) → from ≡ pla
 part-copied file d s at from place n e q = q ∙ rw e
 
 -- a phy's bytes stand in its block
-pub phy-length : (file : List ℕ) (n : ℕ) → 512 * (1 + n) + 512 ≤ length file → length (part file (phyPlace n) 104) ≡ 104
-phy-length file n h = length-part file (phyPlace n) 104 (omega arith)
+pub phy-length : (file : List ℕ) (n : ℕ) → 512 * (1 + n) + 512 ≤ length file → length (part file (phyPlace n) phySize) ≡ phySize
+phy-length file n h = length-part file (phyPlace n) phySize (omega arith)

@@ -4,12 +4,13 @@ use Prim.Native.Nat.{ℕ}
 use Rattle.laws.specs.Flat.{pieces}
 use Rattle.laws.specs.Splice.{part, splice}
 use Rattle.layout.specs.Layout.{phyPlace, rowPlace, controllerPlace}
+use Rattle.phy.specs.Block.{phySize}
 use Rattle.tables.specs.Tables.{infoStart, controllerStart}
 use Rattle.file.specs.File.{fileConnector}
 
 -- phy n's bytes in a file, and those of row i in a file with p phys
 unfoldable pub phyFrom : List ℕ → ℕ → List ℕ
-phyFrom file n = part file (phyPlace n) 104
+phyFrom file n = part file (phyPlace n) phySize
 
 unfoldable pub rowFrom : List ℕ → ℕ → ℕ → List ℕ
 rowFrom file p i = part file (rowPlace p i) 20
@@ -19,7 +20,7 @@ unfoldable pub headed : List ℕ → List ℕ → ℕ → ℕ → List ℕ
 headed t file p a = splice (splice t 0 (p ∷ a ∷ [])) infoStart (part file 4 174)
 
 unfoldable pub physFrom : List ℕ → ℕ → List ℕ
-physFrom file p = pieces (phyFrom file) p 104 32 0
+physFrom file p = pieces (phyFrom file) p phySize 32 0
 
 unfoldable pub rowsFrom : List ℕ → ℕ → ℕ → List ℕ
 rowsFrom file p a = pieces (rowFrom file p) a 20 64 0

@@ -4,38 +4,39 @@ ghost use Prim.Native.Nat.{_+_, _*_, _<_, _≤_};
 ghost use lib.ListN.{length};
 ghost use Rattle.laws.specs.Clear.{zeros};
 ghost use Rattle.laws.specs.Splice.{splice};
-ghost use Rattle.tables.specs.Tables.{tablesSize};
+ghost use Rattle.phy.specs.Block.{phySize};
+ghost use Rattle.tables.specs.Tables.{tablesSize, physSize};
 ghost use Rattle.file.specs.Parse.{phyFrom, physFrom};
 
 // The bytes of the phy that block 1 + n holds, put at an index.
 fn put_phy(d: &mut [u8], at: usize, file: &[u8], n: usize)
     requires { ⌜ (n < 32) × (512 * (1 + n) + 512 ≤ length (now file)) ⌝ }
-    requires { ⌜ at + 104 ≤ length (now d) ⌝ }
+    requires { ⌜ at + phySize ≤ length (now d) ⌝ }
     ensures { λ _. ⌜ now (d .exit) ≡ splice (now (d .entry)) at (phyFrom (now (file .entry)) n) ⌝ }
-    ensures { λ _. ⌜ length (phyFrom (now (file .entry)) n) ≡ 104 ⌝ }
+    ensures { λ _. ⌜ length (phyFrom (now (file .entry)) n) ≡ phySize ⌝ }
 {
-    wire::copy_part(d, at, file, layout::phy_place(n), 104);
+    wire::copy_part(d, at, file, layout::phy_place(n), phy::SIZE);
 }
 
 fn phys_over(all: &mut [u8], file: &[u8], p: usize)
     requires { ⌜ (p ≤ 32) × (512 * (1 + p) ≤ length (now file)) ⌝ }
-    requires { ⌜ now all ≡ zeros 3328 ⌝ }
+    requires { ⌜ now all ≡ zeros physSize ⌝ }
     ensures { λ _. ⌜ now (all .exit) ≡ physFrom (now (file .entry)) p ⌝ }
 {
     let mut i = 0;
     while i < p {
-        put_phy(all, 104 * i, file, i);
+        put_phy(all, phy::SIZE * i, file, i);
         i += 1;
     }
 }
 
 fn put_phys(all: &mut [u8], file: &[u8], p: usize)
     requires { ⌜ (p ≤ 32) × (512 * (1 + p) ≤ length (now file)) ⌝ }
-    requires { ⌜ length (now all) ≡ 3328 ⌝ }
+    requires { ⌜ length (now all) ≡ physSize ⌝ }
     ensures { λ _. ⌜ now (all .exit) ≡ physFrom (now (file .entry)) p ⌝ }
-    ensures { λ _. ⌜ length (now (all .exit)) ≡ 3328 ⌝ }
+    ensures { λ _. ⌜ length (now (all .exit)) ≡ physSize ⌝ }
 {
-    wire::clear(all, 0, 3328);
+    wire::clear(all, 0, tables::PHYS_SIZE);
     phys_over(all, file, p);
 }
 

@@ -1,4 +1,4 @@
--- The bytes of an adapter file that neither document 01 ("Adapter file") nor W-204 names. Assumes nothing.
+-- The bytes of an adapter file that neither document 01 ("Adapter file") nor W-204 and W-205 name. Assumes nothing.
 use mathlib.Core.Bool.{Bool, _&&_}
 use mathlib.Core.List.{List}
 use Prim.Native.Nat.{ℕ, _+_, _-_, _*_}
@@ -11,9 +11,9 @@ use Rattle.layout.specs.Layout.{phyPlace, rowBlocks, rowsIn, rowBlockPla
 unfoldable pub headZero : List ℕ → Bool
 headZero file = allZero (part file 2 2) && allZero (part file 178 330)
 
--- bytes 104 to 507 of a phy's block,
+-- bytes 105 to 507 of a phy's block,
 unfoldable pub phyBlockZero : List ℕ → ℕ → Bool
-phyBlockZero file n = allZero (part file (phyPlace n + 104) 404)
+phyBlockZero file n = allZero (part file (phyPlace n + 105) 403)
 
 -- what stands behind the rows in their block b,
 unfoldable pub rowBlockZero : List ℕ → ℕ → ℕ → ℕ → Bool

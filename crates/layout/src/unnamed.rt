@@ -20,7 +20,7 @@ fn phy_block_zero(file: &[u8], n: usize) -> bool
     requires { ⌜ (n < 32) × (512 * (1 + n) + 512 ≤ length (now file)) ⌝ }
     ensures { λ r. ⌜ r ≡ phyBlockZero (now (file .entry)) n ⌝ }
 {
-    wire::zero_at(file, place::phy_place(n) + 104, 404)
+    wire::zero_at(file, place::phy_place(n) + 105, 403)
 }
 
 fn phy_blocks_zero(file: &[u8], p: usize) -> bool

@@ -1,21 +1,67 @@
 -- What a link reset and disabling keep and set, and that the field rules go on holding. Assumes nothing.
 use mathlib.Core.Path.{_≡_, refl, sym, _∙_}
-use mathlib.Core.Bool.{Bool, true, _||_}
+use mathlib.Core.Logic.{_≢_}
+use mathlib.Core.Bool.{Bool, true, false, cond, _&&_, _||_}
 use Prim.Native.Nat.{ℕ}
+use native.Mathlib.Omega.{arith}
 use lib.Dec.{eqb}
 use lib.ListN.{length}
 use borrow.Author.Tests.{eq-eqb}
 use Rattle.laws.specs.Choice.{by-bool, either}
 use Rattle.phy.specs.declared.Phy.{Phy}
 use Rattle.phy.specs.declared.PhyIdentifier.{PhyIdentifier}
-use Rattle.phy.specs.Entity.{negotiatedOf}
+use Rattle.phy.specs.Entity.{noDevice, negotiatedOf, programmedMinimum, programmedMaximum}
 use Rattle.phy.specs.Change.{cleared, raised, negotiatedAs}
-use Rattle.fields.specs.Rules.{fieldsHold}
+use Rattle.fields.specs.Rules.{isRate, fieldsHold}
 use Rattle.phy.proofs.KeptLaws.{Kept, Settings, kept-trans, settings-trans}
 use Rattle.phy.proofs.ChangedLaws.{kept-cleared, kept-raised, kept-negotiated, settings-cleared, settings-raised, settings-negotiated, negotiated-cleared, negotiated-raised, negotiated-now}
 use Rattle.fields.proofs.HoldLaws.{fields-kept}
-use Rattle.codes.specs.Codes.{phyDisabled, linkRateFailed}
-use Rattle.link.specs.Rule.{ruleOf, counted, reset, disabled, negotiatedHolds}
+use Rattle.codes.specs.Codes.{phyDisabled, linkRateFailed, sataSpinupHold, linkRate15, linkRate30}
+use Rattle.link.specs.Rule.{inBoth, ratesRule, heldRate, ruleOf, counted, reset, disabled, negotiatedHolds}
+
+-- ---- the rule
+
+-- what the code finds
+module _ (hold rate : ℕ) (r : Bool) (e : r ≡ isRate rate) where
+  pub held-now : eqb hold 1 && r ≡ true → sataSpinupHold ≡ heldRate hold rate
+  unfolding heldRate
+  held-now q = rw (← e, q) refl
+
+  pub held-not : eqb hold 1 && r ≡ false → rate ≡ heldRate hold rate
+  unfolding heldRate
+  held-not q = rw (← e, q) refl
+
+-- W-205: "a link rule result of 8 or 9 becomes 3", and no other one
+rates-free : (none : Bool) (minimum maximum lowest highest : ℕ) → ratesRule none minimum maximum lowest highest ≢ sataSpinupHold
+unfolding ratesRule
+rates-free none minimum maximum lowest highest =
+    let No : (ℕ → Type 0) = λ rate. rate ≢ sataSpinupHold in
+    either No none (λ e. omega arith)
+    (either No (inBoth linkRate30 minimum maximum lowest highest) (λ e. omega arith)
+    (either No (inBoth linkRate15 minimum maximum lowest highest) (λ e. omega arith) (λ e. omega arith)))
+
+not-held : (hold rate : ℕ) → hold ≡ 0 → heldRate hold rate ≡ rate
+unfolding heldRate
+not-held hold rate e = rw e refl
+
+-- so the rule of a phy that is not held never gives 3,
+rule-free : (phy : Phy) → phy .«spinup_hold» ≡ 0 → ruleOf phy ≢ sataSpinupHold
+unfolding ruleOf
+rule-free phy e q =
+    let rate : ℕ = ratesRule (noDevice phy) (programmedMinimum phy) (programmedMaximum phy) (phy .lowest) (phy .highest) in
+    rates-free (noDevice phy) (programmedMinimum phy) (programmedMaximum phy) (phy .lowest) (phy .highest)
+    (sym (not-held (phy .«spinup_hold») rate e) ∙ q)
+
+-- and that of one that is held never a rate
+held-rate : (hold rate : ℕ) → hold ≡ 1 → isRate (heldRate hold rate) ≡ false
+unfolding heldRate isRate
+held-rate hold rate e =
+    rw e (by-bool (λ (t : Bool). isRate rate ≡ t → isRate (cond t sataSpinupHold rate) ≡ false) (λ _. refl) (λ p. p) (isRate rate) refl)
+
+pub rule-held : (phy : Phy) → phy .«spinup_hold» ≡ 1 → isRate (ruleOf phy) ≡ false
+unfolding ruleOf
+rule-held phy e =
+    held-rate (phy .«spinup_hold») (ratesRule (noDevice phy) (programmedMinimum phy) (programmedMaximum phy) (phy .lowest) (phy .highest)) e
 
 -- the rule goes by what neither changes
 rule-kept : (a b : Phy) → Kept a b → Settings a b → ruleOf b ≡ ruleOf a
@@ -64,6 +110,10 @@ module _ (phy : Phy) where
       (negotiated-raised linked ∙ negotiated-now phy (ruleOf phy) e)
       (negotiated-now phy (ruleOf phy) e)
 
+  -- "so no link reset gives 3"
+  pub reset-free : length (phy .entity) ≡ 64 → phy .«spinup_hold» ≡ 0 → negotiatedOf (reset phy) ≢ sataSpinupHold
+  reset-free e f = rw (negotiated-reset e) (rule-free phy f)
+
   pub holds-reset : length (phy .entity) ≡ 64 → negotiatedHolds (reset phy) ≡ true
   holds-reset e = given (reset phy) (negotiated-reset e ∙ sym (rule-kept phy (reset phy) kept-reset settings-reset))
 
@@ -84,6 +134,9 @@ module _ (phy : Phy) where
   negotiated-disabled : length (phy .entity) ≡ 64 → negotiatedOf (disabled phy) ≡ phyDisabled
   unfolding disabled
   negotiated-disabled e = negotiated-now phy phyDisabled e
+
+  pub disabled-free : length (phy .entity) ≡ 64 → negotiatedOf (disabled phy) ≢ sataSpinupHold
+  disabled-free e = rw (negotiated-disabled e) (λ q. omega arith)
 
   pub holds-disabled : length (phy .entity) ≡ 64 → negotiatedHolds (disabled phy) ≡ true
   unfolding negotiatedHolds

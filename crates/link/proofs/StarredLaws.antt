@@ -2,9 +2,9 @@
 use mathlib.Core.Path.{refl}
 use Rattle.laws.specs.Cases.{Holds, All}
 use Rattle.phy.specs.Entity.{attachedType, noDevice, programmedMinimum, programmedMaximum}
-use Rattle.link.specs.Rule.{inBoth, ratesRule, ruleOf}
+use Rattle.link.specs.Rule.{inBoth, ratesRule, heldRate, ruleOf}
 use Rattle.link.specs.Starred.{linkCases}
 
 pub linkStarred : All Holds linkCases
-unfolding ruleOf ratesRule inBoth noDevice attachedType programmedMinimum programmedMaximum
+unfolding ruleOf heldRate ratesRule inBoth noDevice attachedType programmedMinimum programmedMaximum
 linkStarred = (refl, (refl, tt))

@@ -1,12 +1,13 @@
--- The link rule, a link reset and a disabled phy (document 01, "Link rule", and "Field rules" of the negotiated rate).
+-- The link rule, a link reset and a disabled phy (document 01, "Link rule", and "Field rules" of the negotiated rate; W-205).
 -- Assumes nothing.
 use mathlib.Core.Bool.{Bool, cond, _&&_, _||_}
 use Prim.Native.Nat.{ℕ}
 use lib.Dec.{eqb, leb}
-use Rattle.codes.specs.Codes.{phyDisabled, linkRateFailed, linkRate15, linkRate30}
+use Rattle.codes.specs.Codes.{phyDisabled, linkRateFailed, sataSpinupHold, linkRate15, linkRate30}
 use Rattle.phy.specs.declared.Phy.{Phy}
 use Rattle.phy.specs.Entity.{noDevice, negotiatedOf, programmedMinimum, programmedMaximum}
 use Rattle.phy.specs.Change.{raised, negotiatedAs}
+use Rattle.fields.specs.Rules.{isRate}
 
 -- a rate "inside both the programmed and the device range"
 unfoldable pub inBoth : ℕ → ℕ → ℕ → ℕ → ℕ → Bool
@@ -20,8 +21,13 @@ ratesRule none minimum maximum lowest highest =
     (cond (inBoth linkRate15 minimum maximum lowest highest) linkRate15
     linkRateFailed))
 
+-- W-205: "For such a phy a link rule result of 8 or 9 becomes 3, spin-up hold"
+unfoldable pub heldRate : ℕ → ℕ → ℕ
+heldRate hold rate = cond (eqb hold 1 && isRate rate) sataSpinupHold rate
+
 unfoldable pub ruleOf : Phy → ℕ
-ruleOf phy = ratesRule (noDevice phy) (programmedMinimum phy) (programmedMaximum phy) (phy .lowest) (phy .highest)
+ruleOf phy =
+    heldRate (phy .«spinup_hold») (ratesRule (noDevice phy) (programmedMinimum phy) (programmedMaximum phy) (phy .lowest) (phy .highest))
 
 -- "A link reset that gives 2 adds one to the phy reset problem counter"
 unfoldable pub counted : Phy → ℕ → Phy

@@ -6,7 +6,7 @@ use Rattle.laws.specs.Cases.{Case}
 use Rattle.phy.specs.declared.Phy.{Phy}
 use Rattle.link.specs.Rule.{ruleOf}
 
--- a phy with an end device attached: its programmed range, within hardware that has both rates, and the device's range
+-- a phy with an end device attached, not held at spin-up: its programmed range, within hardware that has both rates, and the device's range
 abbrev phyWith : ℕ → ℕ → ℕ → ℕ → Phy
 phyWith minimum maximum lowest highest =
     record {
@@ -17,6 +17,7 @@ phyWith minimum maximum lowest highest =
       fixed = 0;
       lowest = lowest;
       highest = highest;
+      «spinup_hold» = 0;
     }
 
 -- a programmed range and a device's, with the rate

@@ -1,11 +1,11 @@
 // The rate that a phy and the device attached to it agree on, a link reset, and a phy that is disabled (document 01, "Link
-// rule").
+// rule"; W-205).
 mod all;
 
 pub use all::all_negotiated;
 use phy::Phy;
 ghost use mathlib.Core.Path.{_≡_};
-ghost use Rattle.link.specs.Rule.{inBoth, ratesRule, ruleOf, counted, reset, disabled, negotiatedHolds};
+ghost use Rattle.link.specs.Rule.{inBoth, ratesRule, heldRate, ruleOf, counted, reset, disabled, negotiatedHolds};
 
 fn in_both(rate: u8, minimum: u8, maximum: u8, lowest: u8, highest: u8) -> bool
     ensures { λ r. ⌜ r ≡ inBoth rate minimum maximum lowest highest ⌝ }
@@ -28,17 +28,28 @@ fn rates_rule(none: bool, minimum: u8, maximum: u8, lowest: u8, highest: u8) -> 
     codes::LINK_RATE_FAILED
 }
 
+// A device held at spin-up has no rate yet.
+fn held_rate(hold: u8, rate: u8) -> u8
+    ensures { λ r. ⌜ r ≡ heldRate hold rate ⌝ }
+{
+    if (hold == 1) & fields::is_rate(rate) {
+        return codes::SATA_SPINUP_HOLD;
+    }
+    rate
+}
+
 // The rate that a link reset gives.
 pub fn rule(phy: Phy) -> u8
     ensures { λ r. ⌜ r ≡ ruleOf phy ⌝ }
 {
-    rates_rule(
+    let rate = rates_rule(
         phy.no_device(),
         phy.programmed_minimum(),
         phy.programmed_maximum(),
         phy.lowest,
         phy.highest,
-    )
+    );
+    held_rate(phy.spinup_hold, rate)
 }
 
 fn count_failure(phy: Phy, rate: u8) -> Phy

@@ -11,8 +11,18 @@ use borrow.Author.Tests.{eqb-true, eqb-false}
 use Rattle.laws.specs.Choice.{by-bool}
 use Rattle.phy.specs.declared.Phy.{Phy}
 use Rattle.phy.specs.Entity.{byteOf, classPlace, portPlace, negotiatedPlace, minimumPlace, maximumPlace, attachedPlace, classOf, negotiatedOf, hardwareMinimum, hardwareMaximum, programmedMinimum, programmedMaximum}
-use Rattle.phy.specs.Change.{oneMore, problemPlace, cleared, raised, stored, negotiatedAs, programmedAs, configured}
-use Rattle.phy.proofs.KeptLaws.{Kept, Settings, kept-trans, byte-other, byte-here, kept-stored, kept-counters, settings-counters}
+use Rattle.phy.specs.Change.{released, oneMore, problemPlace, cleared, raised, stored, negotiatedAs, programmedAs, configured}
+use Rattle.phy.proofs.KeptLaws.{Kept, Settings, kept-trans, byte-other, byte-here, kept-stored, kept-beside, kept-counters, settings-counters}
+
+-- ---- the hold at spin-up
+
+pub kept-released : (phy : Phy) → Kept phy (released phy)
+unfolding released
+kept-released phy = kept-beside phy (released phy) refl (λ c. c) refl refl refl refl refl
+
+pub hold-released : (phy : Phy) → released phy .«spinup_hold» ≡ 0
+unfolding released
+hold-released phy = refl
 
 -- ---- the counters
 
@@ -54,12 +64,13 @@ kept-negotiated phy rate =
     (ap (λ (b : ℕ). b % 16) (byte-other phy negotiatedPlace rate maximumPlace (λ e. omega arith)))
 
 pub settings-negotiated : (phy : Phy) (rate : ℕ) → Settings phy (negotiatedAs phy rate)
-unfolding negotiatedAs classOf programmedMinimum programmedMaximum
+unfolding negotiatedAs stored classOf programmedMinimum programmedMaximum
 settings-negotiated phy rate =
     record {
       class = byte-other phy negotiatedPlace rate classPlace (λ e. omega arith);
       minimum = ap (λ (b : ℕ). b / 16) (byte-other phy negotiatedPlace rate minimumPlace (λ e. omega arith));
       maximum = ap (λ (b : ℕ). b / 16) (byte-other phy negotiatedPlace rate maximumPlace (λ e. omega arith));
+      hold = refl;
     }
 
 pub negotiated-now : (phy : Phy) (rate : ℕ) → length (phy .entity) ≡ 64 → negotiatedOf (negotiatedAs phy rate) ≡ rate
@@ -98,6 +109,11 @@ module _ (phy : Phy) (class minimum maximum : ℕ) where
 
   abbrev ranged : Phy
   ranged = programmedAs classed minimumPlace minimum
+
+  -- whether the phy is held at spin-up is carried
+  pub hold-configured : configured phy class minimum maximum .«spinup_hold» ≡ phy .«spinup_hold»
+  unfolding configured programmedAs stored
+  hold-configured = refl
 
   module _ (e : length (phy .entity) ≡ 64) where
     kept-classed : Kept phy classed

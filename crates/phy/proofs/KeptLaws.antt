@@ -35,6 +35,7 @@ pub record Settings (a b : Phy) : Type 0 where
   pub class : classOf b ≡ classOf a
   pub minimum : programmedMinimum b ≡ programmedMinimum a
   pub maximum : programmedMaximum b ≡ programmedMaximum a
+  pub hold : b .«spinup_hold» ≡ a .«spinup_hold»
 
 pub kept-refl : (a : Phy) → Kept a a
 kept-refl a =
@@ -80,7 +81,12 @@ kept-trans a b c p q =
 
 pub settings-trans : (a b c : Phy) → Settings a b → Settings b c → Settings a c
 settings-trans a b c p q =
-    record { class = q .class ∙ p .class; minimum = q .minimum ∙ p .minimum; maximum = q .maximum ∙ p .maximum }
+    record {
+      class = q .class ∙ p .class;
+      minimum = q .minimum ∙ p .minimum;
+      maximum = q .maximum ∙ p .maximum;
+      hold = q .hold ∙ p .hold;
+    }
 
 -- ---- one byte of the entity
 
@@ -122,30 +128,35 @@ kept-stored phy k v h i j m n =
       highest = refl;
     }
 
--- ---- the counters
+-- ---- what stands beside the entity
+
+-- the counters, and whether the device is held at spin-up
+pub kept-beside : (a b : Phy) → b .entity ≡ a .entity → (length (a .counters) ≡ 4 → length (b .counters) ≡ 4) → b .signature ≡ a .signature → b .held ≡ a .held
+    → b .fixed ≡ a .fixed → b .lowest ≡ a .lowest → b .highest ≡ a .highest → Kept a b
+unfolding identifierOf portOf hardwareMinimum hardwareMaximum attachedOf attachedType noDevice attachedAddress isSata
+kept-beside a b e c s h f l u =
+    record {
+      size = ap length e;
+      identifier = rw e;
+      port = rw e;
+      minimum = rw e;
+      maximum = rw e;
+      attached = rw e;
+      type = rw e;
+      device = rw e;
+      address = rw e;
+      sata = rw e;
+      count = c;
+      signature = s;
+      held = h;
+      fixed = f;
+      lowest = l;
+      highest = u;
+    }
 
 pub kept-counters : (phy : Phy) (c : List ℕ) → (length (phy .counters) ≡ 4 → length c ≡ 4) → Kept phy (withCounters phy c)
-unfolding identifierOf portOf hardwareMinimum hardwareMaximum attachedOf attachedType noDevice attachedAddress isSata
-kept-counters phy c h =
-    record {
-      size = refl;
-      identifier = refl;
-      port = refl;
-      minimum = refl;
-      maximum = refl;
-      attached = refl;
-      type = refl;
-      device = refl;
-      address = refl;
-      sata = refl;
-      count = h;
-      signature = refl;
-      held = refl;
-      fixed = refl;
-      lowest = refl;
-      highest = refl;
-    }
+kept-counters phy c h = kept-beside phy (withCounters phy c) refl h refl refl refl refl refl
 
 pub settings-counters : (phy : Phy) (c : List ℕ) → Settings phy (withCounters phy c)
 unfolding classOf programmedMinimum programmedMaximum
-settings-counters phy c = record { class = refl; minimum = refl; maximum = refl }
+settings-counters phy c = record { class = refl; minimum = refl; maximum = refl; hold = refl }

@@ -1,4 +1,4 @@
--- The changes that a request makes to a phy (document 01, "Request", codes 21 and 22, and "Link rule"). Its two record
+-- The changes that a request makes to a phy (document 01, "Request", codes 21 and 22, and "Link rule"; W-205). Its three record
 -- literals are the only ones that change a phy. Assumes nothing.
 use mathlib.Core.Bool.{cond}
 use mathlib.Core.List.{List, [], _∷_}
@@ -19,6 +19,7 @@ withEntity phy entity =
       fixed = phy .fixed;
       lowest = phy .lowest;
       highest = phy .highest;
+      «spinup_hold» = phy .«spinup_hold»;
     }
 
 -- the phy with other counters
@@ -32,6 +33,21 @@ withCounters phy counters =
       fixed = phy .fixed;
       lowest = phy .lowest;
       highest = phy .highest;
+      «spinup_hold» = phy .«spinup_hold»;
+    }
+
+-- W-205: "sets the byte to 0"
+unfoldable pub released : Phy → Phy
+released phy =
+    record {
+      entity = phy .entity;
+      counters = phy .counters;
+      signature = phy .signature;
+      held = phy .held;
+      fixed = phy .fixed;
+      lowest = phy .lowest;
+      highest = phy .highest;
+      «spinup_hold» = 0;
     }
 
 -- "clear all four"

@@ -1,13 +1,13 @@
-// The phy that a block of the adapter file holds, and the state: the first 104 bytes of either.
+// The phy that a block of the adapter file holds, and the state: the first 105 bytes of either.
 use crate::Phy;
 ghost use mathlib.Core.Path.{_≡_};
 ghost use Prim.Native.Nat.{_≤_};
 ghost use lib.ListN.{length};
 ghost use Rattle.laws.specs.Splice.{part};
-ghost use Rattle.phy.specs.Block.{countersAt, phyOf};
+ghost use Rattle.phy.specs.Block.{phySize, countersAt, phyOf};
 
 fn entity_of(block: &[u8]) -> [u8; 64]
-    requires { ⌜ 104 ≤ length (now block) ⌝ }
+    requires { ⌜ phySize ≤ length (now block) ⌝ }
     ensures { λ r. ⌜ r ≡ part (now (block .entry)) 0 64 ⌝ }
 {
     let mut entity = [0u8; 64];
@@ -16,7 +16,7 @@ fn entity_of(block: &[u8]) -> [u8; 64]
 }
 
 fn counters_of(block: &[u8]) -> [u32; 4]
-    requires { ⌜ 104 ≤ length (now block) ⌝ }
+    requires { ⌜ phySize ≤ length (now block) ⌝ }
     ensures { λ r. ⌜ r ≡ countersAt (now (block .entry)) 64 ⌝ }
 {
     let invalid = wire::read32(block, 64);
@@ -27,7 +27,7 @@ fn counters_of(block: &[u8]) -> [u32; 4]
 }
 
 fn signature_of(block: &[u8]) -> [u8; 20]
-    requires { ⌜ 104 ≤ length (now block) ⌝ }
+    requires { ⌜ phySize ≤ length (now block) ⌝ }
     ensures { λ r. ⌜ r ≡ part (now (block .entry)) 80 20 ⌝ }
 {
     let mut signature = [0u8; 20];
@@ -37,7 +37,7 @@ fn signature_of(block: &[u8]) -> [u8; 20]
 
 impl Phy {
     pub fn from_block(block: &[u8]) -> Phy
-        requires { ⌜ 104 ≤ length (now block) ⌝ }
+        requires { ⌜ phySize ≤ length (now block) ⌝ }
         ensures { λ r. ⌜ r ≡ phyOf (now (block .entry)) ⌝ }
     {
         let entity = entity_of(block);
@@ -51,6 +51,7 @@ impl Phy {
             fixed: block[101],
             lowest: block[102],
             highest: block[103],
+            spinup_hold: block[104],
         }
     }
 }

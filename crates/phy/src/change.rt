@@ -6,7 +6,7 @@ use crate::NEGOTIATED;
 use crate::Phy;
 ghost use mathlib.Core.Path.{_≡_};
 ghost use Prim.Native.Nat.{_<_};
-ghost use Rattle.phy.specs.Change.{stored, oneMore, cleared, raised, negotiatedAs, programmedAs, configured};
+ghost use Rattle.phy.specs.Change.{stored, released, oneMore, cleared, raised, negotiatedAs, programmedAs, configured};
 
 // The fourth counter of 6.9.
 const RESET_PROBLEM: usize = 3;
@@ -29,6 +29,14 @@ impl Phy {
         let mut entity = self.entity;
         entity[place] = value;
         self.entity = entity;
+        self
+    }
+
+    // No longer held at spin-up.
+    pub fn released(mut self) -> Phy
+        ensures { λ r. ⌜ r ≡ released self ⌝ }
+    {
+        self.spinup_hold = 0;
         self
     }
 

@@ -13,7 +13,7 @@ pub struct PhyIdentifier(pub u8);
 pub struct PortIdentifier(pub u8);
 
 // A phy: its PHY_ENTITY (6.7.4.2), its four counters in the order of 6.9, its signature FIS and whether it holds one, whether
-// it is fixed, and the lowest and the highest rate of the device attached to it.
+// it is fixed, the lowest and the highest rate of the device attached to it, and whether that device is held at spin-up (W-205).
 pub struct Phy {
     pub entity: [u8; 64],
     pub counters: [u32; 4],
@@ -22,7 +22,11 @@ pub struct Phy {
     pub fixed: u8,
     pub lowest: u8,
     pub highest: u8,
+    pub spinup_hold: u8,
 }
+
+// How many bytes a phy has, in its block of the adapter file and in the state.
+pub const SIZE: usize = 105;
 
 // The places of a PHY_ENTITY.
 pub const IDENTIFIER: usize = 20;

@@ -10,7 +10,7 @@ use Rattle.laws.specs.All.{allTo}
 use Rattle.laws.specs.Splice.{part, part-all, length-part}
 use Rattle.wire.specs.Same.{allZero}
 use Rattle.wire.proofs.ZeroLaws.{zero-split, zero-none, zero-one, zero-number, zero-run}
-use Rattle.phy.specs.Block.{countersAt, phyOf}
+use Rattle.phy.specs.Block.{phySize, countersAt, phyOf}
 use Rattle.fields.specs.Rules.{phyZero}
 use Rattle.rows.specs.Row.{zeroFrom, rowsOf, rowsSize}
 use Rattle.connectors.specs.Connector.{connectorsSize, connectorsOf, connectorsPast}
@@ -31,10 +31,11 @@ counters-zero b =
     let z = zero-none b 64 in
     cc (zero-number (part b 64 4), zero-number (part b 68 4), zero-number (part b 72 4), zero-number (part b 76 4))
 
-phy-zero : (b : List ℕ) → length b ≡ 104 → allZero b ≡ phyZero (phyOf b)
+phy-zero : (b : List ℕ) → length b ≡ phySize → allZero b ≡ phyZero (phyOf b)
 unfolding phyZero phyOf
 phy-zero b n =
-    let w : b ≡ part b 0 104 = sym (ap (part b 0) (sym n) ∙ part-all b) in
+    let w : b ≡ part b 0 phySize = sym (ap (part b 0) (sym n) ∙ part-all b) in
+    let s = zero-split b 0 104 1 in
     let s0 = zero-split b 0 103 1 in
     let s1 = zero-split b 0 102 1 in
     let s2 = zero-split b 0 101 1 in
@@ -45,23 +46,24 @@ phy-zero b n =
     let o1 = zero-one b 101 (omega arith) in
     let o2 = zero-one b 102 (omega arith) in
     let o3 = zero-one b 103 (omega arith) in
+    let o4 = zero-one b 104 (omega arith) in
     ap allZero w ∙ cc (counters-zero b)
 
 -- ---- the phys from p on, the rows from a on, and the connectors
 
 one-phy : (t : List ℕ) (p i : ℕ) → length t ≡ tablesSize → p + i < 32
-    → allZero (part t (phyStart p + 104 * i) 104) ≡ phyZero (phyIn (tablesOf t) (p + i))
+    → allZero (part t (phyStart p + phySize * i) phySize) ≡ phyZero (phyIn (tablesOf t) (p + i))
 unfolding phyAt
 one-phy t p i n h =
-    let e : phyStart p + 104 * i ≡ phyStart (p + i) = omega arith in
-    rw (e, phy-in t (p + i) h) (phy-zero (part t (phyStart (p + i)) 104) (length-part t (phyStart (p + i)) 104 (omega arith)))
+    let e : phyStart p + phySize * i ≡ phyStart (p + i) = omega arith in
+    rw (e, phy-in t (p + i) h) (phy-zero (part t (phyStart (p + i)) phySize) (length-part t (phyStart (p + i)) phySize (omega arith)))
 
-pub phys-past : (t : List ℕ) (p : ℕ) (r : Bool) → length t ≡ tablesSize → p ≤ 32 → r ≡ allZero (part t (phyStart p) (104 * (32 - p)))
+pub phys-past : (t : List ℕ) (p : ℕ) (r : Bool) → length t ≡ tablesSize → p ≤ 32 → r ≡ allZero (part t (phyStart p) (phySize * (32 - p)))
     → r ≡ physPast (tablesOf t .phys) p
 unfolding physPast
 phys-past t p r n h q =
     q
-    ∙ zero-run (λ (i : ℕ). phyZero (phyIn (tablesOf t) (p + i))) t (phyStart p) 104 (32 - p) (omega arith) (λ i l. one-phy t p i n (omega arith))
+    ∙ zero-run (λ (i : ℕ). phyZero (phyIn (tablesOf t) (p + i))) t (phyStart p) phySize (32 - p) (omega arith) (λ i l. one-phy t p i n (omega arith))
 
 pub rows-past-lent : (t : List ℕ) (a : ℕ) (r : Bool) → r ≡ zeroFrom (rowsOf (take rowsSize (drop rowsStart t))) a → r ≡ zeroFrom (tablesOf t .rows) a
 unfolding part

@@ -59,7 +59,7 @@ fn phys_zero_from(tables: &[u8], p: usize) -> bool
     requires { ⌜ (p ≤ 32) × (length (now tables) ≡ tablesSize) ⌝ }
     ensures { λ r. ⌜ r ≡ physPast (tablesOf (now (tables .entry)) .phys) p ⌝ }
 {
-    wire::zero_at(tables, tables::PHYS + 104 * p, 104 * (32 - p))
+    wire::zero_at(tables, tables::PHYS + phy::SIZE * p, phy::SIZE * (32 - p))
 }
 
 fn rows_zero_from(tables: &[u8], a: usize) -> bool

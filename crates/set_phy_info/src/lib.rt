@@ -1,4 +1,4 @@
-// Code 21, set phy info (document 01, "Request"). It works on the body of its request, the buffer after its header, and on the tables, in which
+// Code 21, set phy info (document 01, "Request"; W-205). It works on the body of its request, the buffer after its header, and on the tables, in which
 // it stores the phy that it changes. It gives the return code.
 use phy::Phy;
 use phy::PhyIdentifier;
@@ -77,7 +77,7 @@ fn set_to(phy: Phy, s: PhySetting, minimum: u8, maximum: u8) -> Phy
     requires { ⌜ (minimum < 16) × (maximum < 16) ⌝ }
     ensures { λ r. ⌜ r ≡ setTo phy s minimum maximum ⌝ }
 {
-    let configured = phy.configured(s.class, minimum, maximum);
+    let configured = phy.released().configured(s.class, minimum, maximum);
     relink(s.negotiated, configured)
 }
 
@@ -144,7 +144,7 @@ fn set_existing(tables: &mut [u8], n: PhyIdentifier, body: &[u8]) -> u32
     set_phy(tables, n, phy, phy_setting(body))
 }
 
-// Sets a phy's signal class and programmed rates, and disables it or resets its link.
+// Sets a phy's signal class and programmed rates, ends its hold at spin-up, and disables it or resets its link.
 pub fn set_info(tables: &mut [u8], body: &[u8]) -> u32
     requires { ⌜ length (now tables) ≡ tablesSize ⌝ }
     requires { ⌜ FewPhys (tablesOf (now tables)) ⌝ }

@@ -17,7 +17,7 @@ use Rattle.level.specs.Text.{textLevel}
 use Rattle.rows.specs.Row.{rowsHold, rowsOf}
 use Rattle.adapter.specs.Adapter.{Adapter, countsHold, mediumSize}
 use Rattle.adapter.proofs.StoreLaws.{phys-bound, rows-bound}
-use Rattle.tables.specs.Tables.{tablesSize, tablesOf}
+use Rattle.tables.specs.Tables.{tablesSize, rowsStart, tablesOf}
 use Rattle.tables.proofs.Laws.{rows-in}
 use Rattle.tables.proofs.ZeroLaws.{zero-tables}
 use Rattle.file.specs.File.{FileRead, reads, fileRead, adapterOf}
@@ -116,7 +116,7 @@ module _ (text file medium state : List ℕ) where
 
 -- ---- the rows' part of the tables, lent
 
-pub rows-lent : (t : List ℕ) (a : ℕ) (r : Bool) → a ≡ tablesOf t .«row_count» → r ≡ rowsHold (rowsOf (take 1280 (drop 3504 t))) a
+pub rows-lent : (t : List ℕ) (a : ℕ) (r : Bool) → a ≡ tablesOf t .«row_count» → r ≡ rowsHold (rowsOf (take 1280 (drop rowsStart t))) a
     → r ≡ rowsHold (tablesOf t .rows) (tablesOf t .«row_count»)
 unfolding part
 rows-lent t a r e q = q ∙ rw (e, rows-in t)

@@ -22,7 +22,7 @@ stateWith level ad = record { level = level; adapter = ad }
 
 -- the state that lent bytes stand for: the level's byte, and the tables behind it. Every list of that length stands for one
 abbrev pub stateSize : ℕ
-stateSize = 6149
+stateSize = 6181
 
 unfoldable pub stateOf : List ℕ → State
 stateOf bytes = stateWith (record { 0 = getD bytes 0 0 }) (tablesOf (drop 1 bytes))

@@ -12,7 +12,7 @@ use Rattle.laws.specs.Fill.{getD-listTo, length-listTo}
 use Rattle.laws.specs.Splice.{part, splice, length-part, part-part, getD-part}
 use Rattle.phy.specs.declared.Phy.{Phy}
 use Rattle.phy.specs.declared.PortIdentifier.{PortIdentifier}
-use Rattle.phy.specs.Block.{noPhy, phyOf}
+use Rattle.phy.specs.Block.{phySize, noPhy, phyOf}
 use Rattle.phy.specs.Entity.{byteOf, portOf}
 use Rattle.rows.specs.Row.{rowsSize, rowsOf}
 use Rattle.connectors.specs.Connector.{connectorsSize, connectorsOf}
@@ -52,17 +52,17 @@ tables-phys t = length-listTo (phyAt t) 32
 
 pub tables-entity : (t : List ℕ) (n : ℕ) → length t ≡ tablesSize → n < 32 → length (phyIn (tablesOf t) n .entity) ≡ 64
 unfolding phyAt phyOf
-tables-entity t n e h = rw (phy-in t n h) (length-part _ 0 64 (rw (length-part t (phyStart n) 104 (omega arith)) (omega arith)))
+tables-entity t n e h = rw (phy-in t n h) (length-part _ 0 64 (rw (length-part t (phyStart n) phySize (omega arith)) (omega arith)))
 
 -- a part lent to the reading of a phy
-pub phy-lent : (t : List ℕ) (from n : ℕ) (r : Phy) → n < 32 → from ≡ phyStart n → r ≡ phyOf (take (from + 104 - from) (drop from t)) → r ≡ phyIn (tablesOf t) n
+pub phy-lent : (t : List ℕ) (from n : ℕ) (r : Phy) → n < 32 → from ≡ phyStart n → r ≡ phyOf (take (from + phySize - from) (drop from t)) → r ≡ phyIn (tablesOf t) n
 unfolding phyAt part
 phy-lent t from n r h e q = tables-phy t n r h (q ∙ rw (add-sub-cancel-left, e))
 
 -- the entity of phy n, as a part of the bytes, and copied
 entity-in : (t : List ℕ) (n : ℕ) → n < 32 → phyIn (tablesOf t) n .entity ≡ part t (phyStart n) 64
 unfolding phyAt phyOf
-entity-in t n h = ap (λ (x : Phy). x .entity) (phy-in t n h) ∙ part-part t (phyStart n) 104 0 64 (omega arith) ∙ rw add-zero
+entity-in t n h = ap (λ (x : Phy). x .entity) (phy-in t n h) ∙ part-part t (phyStart n) phySize 0 64 (omega arith) ∙ rw add-zero
 
 pub entity-put : (t d s : List ℕ) (n from at : ℕ) → n < 32 → from ≡ phyStart n → s ≡ splice d at (part t from 64) → s ≡ splice d at (phyIn (tablesOf t) n .entity)
 entity-put t d s n from at h e q = q ∙ rw (e, ← entity-in t n h)

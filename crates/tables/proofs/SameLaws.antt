@@ -12,7 +12,7 @@ use borrow.Author.Tests.{ltb-true, ltb-false}
 use Rattle.laws.specs.Choice.{by-bool}
 use Rattle.laws.specs.Splice.{part, length-part, getD-part, part-all, part-add}
 use Rattle.wire.proofs.NumberLaws.{Bytes, bytes-part, word-back}
-use Rattle.phy.specs.Block.{phyOf, countersAt}
+use Rattle.phy.specs.Block.{phySize, phyOf, countersAt}
 use Rattle.rows.specs.Row.{rowsSize}
 use Rattle.rows.proofs.SameLaws.{rows-same}
 use Rattle.connectors.specs.Connector.{connectorsSize}
@@ -20,28 +20,28 @@ use Rattle.connectors.proofs.Laws.{connectors-same}
 use Rattle.adapter.specs.Adapter.{Adapter, phyIn}
 use Rattle.tables.specs.PhyBytes.{counterBytes}
 use Rattle.tables.proofs.PhyBytesLaws.{phyBytes}
-use Rattle.tables.specs.Tables.{tablesSize, phyStart, rowsStart, controllerStart, statusStart, connectorsStart, phyAt, tablesOf}
+use Rattle.tables.specs.Tables.{tablesSize, physSize, phyStart, rowsStart, controllerStart, statusStart, connectorsStart, phyAt, tablesOf}
 use Rattle.tables.proofs.Laws.{phy-in, rows-in, controller-in, status-in, connectors-in}
-use Rattle.tables.proofs.StoredLaws.{four}
+use Rattle.tables.proofs.StoredLaws.{five}
 
 -- ---- a phy's bytes, read and written back
 
-module _ (b : List ℕ) (e : length b ≡ 104) (h : Bytes b) where
+module _ (b : List ℕ) (e : length b ≡ phySize) (h : Bytes b) where
   counts-same : counterBytes (countersAt b 64) ≡ part b 64 16
   unfolding counterBytes countersAt
   counts-same =
       rw (word-back b 64 h (omega arith), word-back b 68 h (omega arith), word-back b 72 h (omega arith), word-back b 76 h (omega arith))
       (rw (← part-add b 72 4 4, ← part-add b 68 4 8, ← part-add b 64 4 12) refl)
 
-  last-same : getD b 100 0 ∷ getD b 101 0 ∷ getD b 102 0 ∷ getD b 103 0 ∷ [] ≡ part b 100 4
+  last-same : getD b 100 0 ∷ getD b 101 0 ∷ getD b 102 0 ∷ getD b 103 0 ∷ getD b 104 0 ∷ [] ≡ part b 100 5
   last-same =
-      let g : (i : ℕ) → i < 4 → getD b (100 + i) 0 ≡ getD (part b 100 4) i 0 = λ i l. sym (getD-part b 100 4 i 0 l) in
-      rw (g 0 (omega arith), g 1 (omega arith), g 2 (omega arith), g 3 (omega arith)) (four (part b 100 4) (length-part b 100 4 (omega arith)))
+      let g : (i : ℕ) → i < 5 → getD b (100 + i) 0 ≡ getD (part b 100 5) i 0 = λ i l. sym (getD-part b 100 5 i 0 l) in
+      rw (g 0 (omega arith), g 1 (omega arith), g 2 (omega arith), g 3 (omega arith), g 4 (omega arith)) (five (part b 100 5) (length-part b 100 5 (omega arith)))
 
   bytes-back : phyBytes (phyOf b) ≡ b
   unfolding phyBytes phyOf
   bytes-back =
-      rw (counts-same, last-same) (rw (← part-add b 80 20 4, ← part-add b 64 16 24, ← part-add b 0 64 40) (ap (part b 0) (sym e) ∙ part-all b))
+      rw (counts-same, last-same) (rw (← part-add b 80 20 5, ← part-add b 64 16 25, ← part-add b 0 64 41) (ap (part b 0) (sym e) ∙ part-all b))
 
 -- ---- the tables
 
@@ -50,13 +50,13 @@ module _ (t u : List ℕ) (p : length t ≡ tablesSize) (q : length u ≡ tables
   unfolding tablesOf
   head-same = (ap (λ (a : Adapter). a .«phy_count») e, (ap (λ (a : Adapter). a .«row_count») e, ap (λ (a : Adapter). a .info) e))
 
-  phy-same : (n : ℕ) → n < 32 → part t (phyStart n) 104 ≡ part u (phyStart n) 104
+  phy-same : (n : ℕ) → n < 32 → part t (phyStart n) phySize ≡ part u (phyStart n) phySize
   unfolding phyAt
   phy-same n l =
-      let s : phyOf (part t (phyStart n) 104) ≡ phyOf (part u (phyStart n) 104) = sym (phy-in t n l) ∙ ap (λ (a : Adapter). phyIn a n) e ∙ phy-in u n l in
-      sym (bytes-back (part t (phyStart n) 104) (length-part t (phyStart n) 104 (omega arith)) (bytes-part t (phyStart n) 104 h (omega arith)))
+      let s : phyOf (part t (phyStart n) phySize) ≡ phyOf (part u (phyStart n) phySize) = sym (phy-in t n l) ∙ ap (λ (a : Adapter). phyIn a n) e ∙ phy-in u n l in
+      sym (bytes-back (part t (phyStart n) phySize) (length-part t (phyStart n) phySize (omega arith)) (bytes-part t (phyStart n) phySize h (omega arith)))
       ∙ ap phyBytes s
-      ∙ bytes-back (part u (phyStart n) 104) (length-part u (phyStart n) 104 (omega arith)) (bytes-part u (phyStart n) 104 k (omega arith))
+      ∙ bytes-back (part u (phyStart n) phySize) (length-part u (phyStart n) phySize (omega arith)) (bytes-part u (phyStart n) phySize k (omega arith))
 
   rows-here : part t rowsStart rowsSize ≡ part u rowsStart rowsSize
   rows-here =
@@ -88,10 +88,10 @@ module _ (t u : List ℕ) (p : length t ≡ tablesSize) (q : length u ≡ tables
       let s : 2 + i ≡ suc (suc i) = omega arith in
       rw s at (byte-in 2 174 i (head-same .1 .1) (omega arith))
 
-  in-phys : (j : ℕ) → j < 3328 → Same (176 + j)
+  in-phys : (j : ℕ) → j < physSize → Same (176 + j)
   in-phys j l =
-      let s : phyStart (j / 104) + j % 104 ≡ 176 + j = omega arith in
-      rw s at (byte-in (phyStart (j / 104)) 104 (j % 104) (phy-same (j / 104) (omega arith)) (omega arith))
+      let s : phyStart (j / phySize) + j % phySize ≡ 176 + j = omega arith in
+      rw s at (byte-in (phyStart (j / phySize)) phySize (j % phySize) (phy-same (j / phySize) (omega arith)) (omega arith))
 
   -- a byte of a part that starts at `at` and has n bytes, by where it stands
   within : (at n i : ℕ) → part t at n ≡ part u at n → at ≤ i → i < at + n → Same i

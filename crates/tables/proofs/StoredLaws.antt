@@ -6,17 +6,17 @@ use mathlib.Core.List.{List, [], _∷_, _++_, append-assoc}
 use Prim.Native.Nat.{ℕ, _+_, _-_, _<_, _≤_}
 use native.Mathlib.Omega.{arith}
 use lib.Dec.{ltb}
-use lib.ListN.{length, getD, set, take, drop, length-append}
+use lib.ListN.{length, getD, take, drop, length-append}
 use borrow.Author.Tests.{ltb-true, ltb-false}
 use Rattle.laws.specs.Choice.{by-bool}
 use mir.Syntax.{w32}
 use mir.Val.{Fits}
 use Rattle.laws.specs.Fill.{listTo-set}
-use Rattle.laws.specs.Splice.{part, splice, splice-next, length-part, part-splice, part-below, part-above, part-first, part-behind, get-below, get-behind, lent-back, splice-all, stores}
+use Rattle.laws.specs.Splice.{part, splice, splice-next, length-part, part-splice, part-below, part-above, part-first, part-behind, get-below, get-behind, lent-back, splice-all}
 use Rattle.wire.specs.Number.{number, bytes}
 use Rattle.wire.proofs.NumberLaws.{length-bytes, number-bytes}
 use Rattle.phy.specs.declared.Phy.{Phy}
-use Rattle.phy.specs.Block.{phyOf, noPhy, countersAt}
+use Rattle.phy.specs.Block.{phySize, phyOf, noPhy, countersAt}
 use Rattle.rows.specs.Row.{rowsSize}
 use Rattle.connectors.specs.Connector.{connectorsSize}
 use Rattle.adapter.specs.Adapter.{withPhy}
@@ -24,9 +24,9 @@ use Rattle.tables.specs.PhyBytes.{counterBytes, lastBytes, written}
 use Rattle.tables.proofs.PhyBytesLaws.{phyBytes}
 use Rattle.tables.specs.Tables.{tablesSize, phyStart, rowsStart, controllerStart, statusStart, connectorsStart, phyAt, tablesOf}
 
--- ---- a store of 104 bytes at phy n's place
+-- ---- a store of a phy's bytes at phy n's place
 
-module _ (t b : List ℕ) (n : ℕ) (size : length t ≡ tablesSize) (h : n < 32) (e : length b ≡ 104) where
+module _ (t b : List ℕ) (n : ℕ) (size : length t ≡ tablesSize) (h : n < 32) (e : length b ≡ phySize) where
   abbrev after : List ℕ
   after = splice t (phyStart n) b
 
@@ -36,9 +36,9 @@ module _ (t b : List ℕ) (n : ℕ) (size : length t ≡ tablesSize) (h : n < 32
 
   phy-there : (i : ℕ) → i < 32 → i ≢ n → phyAt after i ≡ phyAt t i
   unfolding phyAt
-  phy-there i l d = ap phyOf (by-bool (λ (c : Bool). ltb i n ≡ c → part after (phyStart i) 104 ≡ part t (phyStart i) 104)
-      (λ p. part-below t (phyStart n) b (phyStart i) 104 (omega arith) (omega (arith, ltb-true i n p)))
-      (λ p. part-above t (phyStart n) b (phyStart i) 104 (omega arith) (omega (arith, ltb-false i n p)))
+  phy-there i l d = ap phyOf (by-bool (λ (c : Bool). ltb i n ≡ c → part after (phyStart i) phySize ≡ part t (phyStart i) phySize)
+      (λ p. part-below t (phyStart n) b (phyStart i) phySize (omega arith) (omega (arith, ltb-true i n p)))
+      (λ p. part-above t (phyStart n) b (phyStart i) phySize (omega arith) (omega (arith, ltb-false i n p)))
       (ltb i n) refl)
 
   -- what stands behind the phys
@@ -69,6 +69,10 @@ four (a ∷ b ∷ []) e = absurd (omega arith)
 four (a ∷ b ∷ d ∷ []) e = absurd (omega arith)
 four (a ∷ b ∷ d ∷ f ∷ []) e = refl
 four (a ∷ b ∷ d ∷ f ∷ g ∷ c) e = absurd (omega arith)
+
+pub five : (c : List ℕ) → length c ≡ 5 → getD c 0 0 ∷ getD c 1 0 ∷ getD c 2 0 ∷ getD c 3 0 ∷ getD c 4 0 ∷ [] ≡ c
+five [] e = absurd (omega arith)
+five (a ∷ c) e = ap (λ (x : List ℕ). a ∷ x) (four c (omega arith))
 
 -- the number whose four bytes stand behind k others
 word : (a r : List ℕ) (k n : ℕ) → length a ≡ k → Fits w32 n → number (part (a ++ (bytes 4 n ++ r)) (k + 0) 4) ≡ n
@@ -129,14 +133,11 @@ module _ (phy : Phy) (e : length (phy .entity) ≡ 64) (c : length (phy .counter
 
   phy-back : phyOf (phyBytes phy) ≡ phy
   unfolding phyOf
-  phy-back = rw (entity-back, counters-back, signature-back, last-back 0, last-back 1, last-back 2, last-back 3)
+  phy-back = rw (entity-back, counters-back, signature-back, last-back 0, last-back 1, last-back 2, last-back 3, last-back 4)
 
 -- ---- what the code leaves
 
-pub last-stored : (d : List ℕ) (a b e f : ℕ) → length d ≡ 104 → set (set (set (set d 100 a) 101 b) 102 e) 103 f ≡ splice d 100 (a ∷ b ∷ e ∷ f ∷ [])
-last-stored d a b e f h = stores d 100 (a ∷ b ∷ e ∷ f ∷ []) (omega arith)
-
-pub counters-stored : (d r c : List ℕ) → length d ≡ 104
+pub counters-stored : (d r c : List ℕ) → length d ≡ phySize
     → r ≡ splice (splice (splice (splice d 64 (bytes 4 (getD c 0 0))) 68 (bytes 4 (getD c 1 0))) 72 (bytes 4 (getD c 2 0))) 76 (bytes 4 (getD c 3 0))
     → r ≡ splice d 64 (counterBytes c)
 unfolding counterBytes
@@ -162,7 +163,7 @@ pub record Whole (phy : Phy) : Type 0 where
   pub fits2 : Fits w32 (getD (phy .counters) 2 0)
   pub fits3 : Fits w32 (getD (phy .counters) 3 0)
 
-written-bytes : (d : List ℕ) (phy : Phy) → length d ≡ 104 → Whole phy → written d phy ≡ phyBytes phy
+written-bytes : (d : List ℕ) (phy : Phy) → length d ≡ phySize → Whole phy → written d phy ≡ phyBytes phy
 unfolding phyBytes written
 written-bytes d phy h w =
     let k : length (counterBytes (phy .counters)) ≡ 16 = counts-long (phy .counters) in
@@ -173,16 +174,16 @@ written-bytes d phy h w =
     (rw (splice-next d 0 100 ((phy .entity ++ counterBytes (phy .counters)) ++ phy .signature) (lastBytes phy) (rw (length-append, length-append, w .entity, k, w .signature)) (omega arith))
     (simp append-assoc))))
 
-written-back : (d : List ℕ) (phy : Phy) → length d ≡ 104 → Whole phy → phyOf (written d phy) ≡ phy
+written-back : (d : List ℕ) (phy : Phy) → length d ≡ phySize → Whole phy → phyOf (written d phy) ≡ phy
 written-back d phy h w =
     ap phyOf (written-bytes d phy h w) ∙ phy-back phy (w .entity) (w .counters) (w .signature) (w .fits0) (w .fits1) (w .fits2) (w .fits3)
 
--- a phy's 104 bytes that were lent to the writing of one
-pub phy-put : (t d : List ℕ) (from n : ℕ) (phy : Phy) → n < 32 → length t ≡ tablesSize → from ≡ phyStart n → length d ≡ length (take (from + 104 - from) (drop from t))
-    → Whole phy → d ≡ written (take (from + 104 - from) (drop from t)) phy → tablesOf (take from t ++ (d ++ drop (from + 104 - from) (drop from t))) ≡ withPhy (tablesOf t) n phy
+-- a phy's bytes that were lent to the writing of one
+pub phy-put : (t d : List ℕ) (from n : ℕ) (phy : Phy) → n < 32 → length t ≡ tablesSize → from ≡ phyStart n → length d ≡ length (take (from + phySize - from) (drop from t))
+    → Whole phy → d ≡ written (take (from + phySize - from) (drop from t)) phy → tablesOf (take from t ++ (d ++ drop (from + phySize - from) (drop from t))) ≡ withPhy (tablesOf t) n phy
 unfolding part
 phy-put t d from n phy h e p l w q =
-    let k : from + 104 - from ≡ 104 = omega arith in
-    let j : length (take (from + 104 - from) (drop from t)) ≡ 104 = rw k (length-part t from 104 (omega arith)) in
-    let m : length d ≡ 104 = l ∙ j in
-    rw (k, lent-back t from 104 d m, p) (tables-stored t d n e h m phy (ap phyOf q ∙ written-back (take (from + 104 - from) (drop from t)) phy j w))
+    let k : from + phySize - from ≡ phySize = omega arith in
+    let j : length (take (from + phySize - from) (drop from t)) ≡ phySize = rw k (length-part t from phySize (omega arith)) in
+    let m : length d ≡ phySize = l ∙ j in
+    rw (k, lent-back t from phySize d m, p) (tables-stored t d n e h m phy (ap phyOf q ∙ written-back (take (from + phySize - from) (drop from t)) phy j w))

@@ -7,7 +7,7 @@ use Rattle.laws.specs.Clear.{zeros}
 use Rattle.laws.specs.Fill.{listTo, listTo-all}
 use Rattle.laws.specs.Splice.{part, part-replicate}
 use Rattle.wire.specs.Number.{number}
-use Rattle.phy.specs.Block.{countersAt, phyOf, zeroPhy}
+use Rattle.phy.specs.Block.{phySize, countersAt, phyOf, zeroPhy}
 use Rattle.rows.specs.Row.{rowOf, rowsSize, rowStart, rowsOf, zeroRow}
 use Rattle.connectors.specs.Connector.{connectorsSize, connectorsOf, zeroConnector}
 use Rattle.connectors.proofs.Laws.{zero-connectors}
@@ -15,7 +15,7 @@ use Rattle.adapter.specs.Adapter.{zeroAdapter}
 use Rattle.tables.specs.Tables.{tablesSize, phyStart, rowsStart, controllerStart, statusStart, connectorsStart, phyAt, tablesOf}
 
 -- a phy and a row
-pub phy-zeros : phyOf (zeros 104) ≡ zeroPhy
+pub phy-zeros : phyOf (zeros phySize) ≡ zeroPhy
 unfolding zeroPhy phyOf countersAt number part
 phy-zeros = refl
 
@@ -27,7 +27,7 @@ phys-zeros : listTo (phyAt (zeros tablesSize)) 32 ≡ replicate 32 zeroPhy
 unfolding phyAt
 phys-zeros =
     listTo-all (phyAt (zeros tablesSize)) 32 zeroPhy
-    (λ i l. ap phyOf (part-replicate tablesSize (phyStart i) 104 0 (omega arith)) ∙ phy-zeros)
+    (λ i l. ap phyOf (part-replicate tablesSize (phyStart i) phySize 0 (omega arith)) ∙ phy-zeros)
 
 rows-zeros : rowsOf (part (zeros tablesSize) rowsStart rowsSize) ≡ replicate 64 zeroRow
 unfolding rowsOf

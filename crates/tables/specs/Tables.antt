@@ -1,5 +1,5 @@
 -- The tables and counters that lent bytes stand for (document 01, "The state is the level and what the file holds, zero past p and a"; the
--- level stands before them, apart). 6,148 bytes, each of them named here: p, a, the driver info, 32 phys of 104 bytes, each as the first 104 of its
+-- level stands before them, apart). 6,180 bytes, each of them named here: p, a, the driver info, 32 phys of 105 bytes, each as the first 105 of its
 -- block in the adapter file, 64 rows of 20, and of W-204 the controller's configuration and status and 32 connectors of 36. Every list of that
 -- length stands for an adapter. Assumes nothing.
 use mathlib.Core.List.{List}
@@ -8,36 +8,40 @@ use lib.ListN.{getD}
 use Rattle.laws.specs.Fill.{listTo}
 use Rattle.laws.specs.Splice.{part}
 use Rattle.phy.specs.declared.Phy.{Phy}
-use Rattle.phy.specs.Block.{phyOf}
+use Rattle.phy.specs.Block.{phySize, phyOf}
 use Rattle.rows.specs.Row.{rowsSize, rowsOf}
 use Rattle.connectors.specs.Connector.{connectorsSize, connectorsOf}
 use Rattle.adapter.specs.Adapter.{Adapter}
 
 abbrev pub tablesSize : ℕ
-tablesSize = 6148
+tablesSize = 6180
 
 -- where the driver info, phy n, the rows, configuration, status and the connectors start
 abbrev pub infoStart : ℕ
 infoStart = 2
 
 abbrev pub phyStart : ℕ → ℕ
-phyStart n = 176 + 104 * n
+phyStart n = 176 + phySize * n
+
+-- all 32
+abbrev pub physSize : ℕ
+physSize = 3360
 
 abbrev pub rowsStart : ℕ
-rowsStart = 3504
+rowsStart = 3536
 
 abbrev pub controllerStart : ℕ
-controllerStart = 4784
+controllerStart = 4816
 
 abbrev pub statusStart : ℕ
-statusStart = 4960
+statusStart = 4992
 
 abbrev pub connectorsStart : ℕ
-connectorsStart = 4996
+connectorsStart = 5028
 
 -- phy n of the bytes
 unfoldable pub phyAt : List ℕ → ℕ → Phy
-phyAt t n = phyOf (part t (phyStart n) 104)
+phyAt t n = phyOf (part t (phyStart n) phySize)
 
 -- the adapter of the bytes
 unfoldable pub tablesOf : List ℕ → Adapter

@@ -13,19 +13,22 @@ ghost use Rattle.tables.specs.Tables.{tablesSize, tablesOf};
 
 // How many bytes the tables have, and where the driver info, the phys, the rows, the controller's configuration and status and the
 // connectors start.
-pub const SIZE: usize = 6148;
+pub const SIZE: usize = 6180;
 
 pub const INFO: usize = 2;
 
 pub const PHYS: usize = 176;
 
-pub const ROWS: usize = 3504;
+// All 32 phys.
+pub const PHYS_SIZE: usize = 3360;
 
-pub const CONTROLLER: usize = 4784;
+pub const ROWS: usize = 3536;
 
-pub const STATUS: usize = 4960;
+pub const CONTROLLER: usize = 4816;
 
-pub const CONNECTORS: usize = 4996;
+pub const STATUS: usize = 4992;
+
+pub const CONNECTORS: usize = 5028;
 
 pub fn phy_count(tables: &[u8]) -> u8
     requires { ⌜ length (now tables) ≡ tablesSize ⌝ }

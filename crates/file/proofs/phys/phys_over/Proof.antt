@@ -3,14 +3,16 @@ use mathlib.Core.Path.{_≡_}
 use Prim.Native.Nat.{_-_, _*_, _≤_}
 use lib.ListN.{length}
 use Rattle.laws.specs.Flat.{flatTo, pieces, put-loop}
+use Rattle.phy.specs.Block.{phySize}
+use Rattle.tables.specs.Tables.{physSize}
 use Rattle.file.specs.Parse.{phyFrom, physFrom}
 use Rattle.file.proofs.phys.phys_over.Statement.{statement}
 use Rattle.file.proofs.phys.phys_over.Tie as tie
 
 abbrev Inv-loop : tie.InvT-loop
 Inv-loop all₀ file p i₀ all i =
-    (i ≤ p) × (all ≡ pieces (phyFrom file) i 104 32 0)
-    × (length (flatTo (phyFrom file) i) ≡ 104 * i) × (length all ≡ 3328)
+    (i ≤ p) × (all ≡ pieces (phyFrom file) i phySize 32 0)
+    × (length (flatTo (phyFrom file) i) ≡ phySize * i) × (length all ≡ physSize)
 
 abbrev μ-loop : tie.MeasureT-loop
 μ-loop all₀ file p i₀ all i = p - i
