@@ -9,17 +9,17 @@ use lib.Dec.{eqb, leb, ltb}
 use lib.ListN.{length, getD}
 use borrow.Author.Tests.{eq-eqb, ne-eqb, ltb-true}
 use Rattle.laws.specs.Choice.{by-bool, both-right, either, either-by}
-use Rattle.codes.specs.Codes.{success, setPhyInfo, getLinkErrors, resetPlace, linkErrorResetCounts}
+use Rattle.codes.specs.Codes.{sataSpinupHold, success, setPhyInfo, getLinkErrors, resetPlace, linkErrorResetCounts}
 use Rattle.phy.specs.declared.Phy.{Phy}
 use Rattle.phy.specs.declared.PhyIdentifier.{PhyIdentifier}
-use Rattle.phy.specs.Entity.{programmedMinimum, programmedMaximum}
-use Rattle.phy.specs.Change.{cleared, configured}
+use Rattle.phy.specs.Entity.{negotiatedOf, programmedMinimum, programmedMaximum}
+use Rattle.phy.specs.Change.{released, cleared, configured}
 use Rattle.phy.proofs.KeptLaws.{Kept, Settings, kept-trans}
-use Rattle.phy.proofs.ChangedLaws.{kept-cleared, settings-cleared, kept-configured, minimum-configured, maximum-configured}
+use Rattle.phy.proofs.ChangedLaws.{kept-released, hold-released, kept-cleared, settings-cleared, kept-configured, hold-configured, minimum-configured, maximum-configured}
 use Rattle.fields.specs.Rules.{rangeHolds, fieldsHold}
-use Rattle.fields.proofs.HoldLaws.{fields-cleared, fields-configured}
+use Rattle.fields.proofs.HoldLaws.{range-released, fields-released, fields-cleared, fields-configured}
 use Rattle.link.specs.Rule.{negotiatedHolds}
-use Rattle.link.proofs.KeptLaws.{kept-reset, settings-reset, kept-disabled, settings-disabled, holds-cleared, holds-reset, holds-disabled, fields-reset, fields-disabled}
+use Rattle.link.proofs.KeptLaws.{kept-reset, settings-reset, reset-free, kept-disabled, settings-disabled, disabled-free, holds-cleared, holds-reset, holds-disabled, fields-reset, fields-disabled}
 use Rattle.adapter.specs.Adapter.{Adapter, phyIn, withPhy}
 use Rattle.adapter.specs.Changed.{Stored, Changed, leaves, withBody}
 use Rattle.set_phy_info.specs.declared.PhySetting.{PhySetting}
@@ -38,11 +38,24 @@ named body = getD body 0 0
 -- ---- code 21: a phy that it sets
 
 module _ (phy : Phy) (s : PhySetting) (minimum maximum : ℕ) (e : length (phy .entity) ≡ 64) where
+  -- no longer held, and then with other settings
+  abbrev free : Phy
+  free = released phy
+
   abbrev set : Phy
-  set = configured phy (s .class) minimum maximum
+  set = configured free (s .class) minimum maximum
+
+  free-long : length (free .entity) ≡ 64
+  free-long = kept-released phy .size ∙ e
+
+  kept-set : Kept phy set
+  kept-set = kept-trans phy free set (kept-released phy) (kept-configured free (s .class) minimum maximum free-long)
 
   long : length (set .entity) ≡ 64
-  long = kept-configured phy (s .class) minimum maximum e .size ∙ e
+  long = kept-set .size ∙ e
+
+  set-free : set .«spinup_hold» ≡ 0
+  set-free = hold-configured free (s .class) minimum maximum ∙ hold-released phy
 
   set-settings : Settings set (setTo phy s minimum maximum)
   unfolding setTo relinked
@@ -51,12 +64,17 @@ module _ (phy : Phy) (s : PhySetting) (minimum maximum : ℕ) (e : length (phy .
   set-kept : Kept phy (setTo phy s minimum maximum)
   unfolding setTo relinked
   set-kept =
-      kept-trans phy set (setTo phy s minimum maximum) (kept-configured phy (s .class) minimum maximum e)
+      kept-trans phy set (setTo phy s minimum maximum) kept-set
       (either (λ (x : Phy). Kept set x) (eqb (s .negotiated) 1) (kept-disabled set) (kept-reset set))
 
   set-negotiated : negotiatedHolds (setTo phy s minimum maximum) ≡ true
   unfolding setTo relinked
   set-negotiated = either (λ (x : Phy). negotiatedHolds x ≡ true) (eqb (s .negotiated) 1) (holds-disabled set long) (holds-reset set long)
+
+  -- W-205: "so no link reset gives 3", and a phy that it disables has 1
+  set-rate : negotiatedOf (setTo phy s minimum maximum) ≢ sataSpinupHold
+  unfolding setTo relinked
+  set-rate = either (λ (x : Phy). negotiatedOf x ≢ sataSpinupHold) (eqb (s .negotiated) 1) (disabled-free set long) (reset-free set long set-free)
 
   set-fields : (n : PhyIdentifier) (p : ℕ) → parametersHold s ≡ true → ratesAllowed phy s minimum maximum ≡ true → fieldsHold phy n p ≡ true
       → fieldsHold (setTo phy s minimum maximum) n p ≡ true
@@ -64,7 +82,8 @@ module _ (phy : Phy) (s : PhySetting) (minimum maximum : ℕ) (e : length (phy .
   set-fields n p a r f =
       let c : leb (s .class) 3 ≡ true = both-right (leb (s .negotiated) 1) (leb (s .class) 3) a in
       let q : rangeHolds phy minimum maximum ≡ true = both-right (programmable (s .minimum) && programmable (s .maximum)) (rangeHolds phy minimum maximum) r in
-      let g : fieldsHold set n p ≡ true = fields-configured phy (s .class) minimum maximum n p e c q f in
+      let g : fieldsHold set n p ≡ true =
+      fields-configured free (s .class) minimum maximum n p free-long c (range-released phy minimum maximum ∙ q) (fields-released phy n p f) in
       either (λ (x : Phy). fieldsHold x n p ≡ true) (eqb (s .negotiated) 1) (fields-disabled set n p ∙ g) (fields-reset set n p ∙ g)
 
 -- ---- code 21: the ways that it can go
@@ -146,13 +165,14 @@ module _ (ad : Adapter) (store : Store) (body : List ℕ) (h : adapterHolds ad �
       let l : ℕ = resulting (getD body 2 0) (programmedMinimum phy) in
       let u : ℕ = resulting (getD body 3 0) (programmedMaximum phy) in
       let s = set-settings phy (phySetting body) l u e in
+      let f : length (released phy .entity) ≡ 64 = free-long phy (phySetting body) l u e in
       record {
         below = k;
         kept = set-kept phy (phySetting body) l u e;
         fields = set-fields phy (phySetting body) l u e (record { 0 = n }) (ad .«phy_count») (a .0) (a .1) (fields-in ad h n k);
         negotiated = set-negotiated phy (phySetting body) l u e;
-        minimum = s .minimum ∙ minimum-configured phy (phySetting body .class) l u e ∙ sym (told-rate 2 body (programmedMinimum phy));
-        maximum = s .maximum ∙ maximum-configured phy (phySetting body .class) l u e ∙ sym (told-rate 3 body (programmedMaximum phy));
+        minimum = s .minimum ∙ minimum-configured (released phy) (phySetting body .class) l u f ∙ sym (told-rate 2 body (programmedMinimum phy));
+        maximum = s .maximum ∙ maximum-configured (released phy) (phySetting body .class) l u f ∙ sym (told-rate 3 body (programmedMaximum phy));
         others = told-other body;
       }
 
