@@ -69,11 +69,13 @@ pub mod device {
     pub const FANOUT_EXPANDER: u8 = 0x30;
 }
 
-/// "Rate codes are 8 (1.5 Gb/s) and 9 (3.0)"; negotiated may be one that is no rate.
+/// "Rate codes are 8 (1.5 Gb/s) and 9 (3.0)"; negotiated may be one that is no rate, "3, spin-up
+/// hold" (W-205) among them.
 pub mod rate {
     pub const UNKNOWN: u8 = 0;
     pub const DISABLED: u8 = 1;
     pub const FAILED: u8 = 2;
+    pub const SATA_SPINUP_HOLD: u8 = 3;
     pub const G_1_5: u8 = 8;
     pub const G_3_0: u8 = 9;
 }

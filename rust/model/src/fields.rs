@@ -24,7 +24,8 @@ pub fn fields_are_sound(state: &State) -> bool {
         && state.live_connectors().iter().all(connector_is_sound)
 }
 
-/// The field rules of phy n.
+/// The field rules of phy n. "Negotiated rate is 1 (disabled) or what the link rule gives", to a phy
+/// held at spin-up too.
 fn phy_is_sound(phy: &Phy, n: u8, p: u8) -> bool {
     phy.entity[entity::PHY_IDENTIFIER] == n
         && phy.entity[entity::SIGNAL_CLASS] <= MAX_CLASS
@@ -34,6 +35,7 @@ fn phy_is_sound(phy: &Phy, n: u8, p: u8) -> bool {
         && rates_are_sound(phy)
         && attached_is_sound(phy)
         && signature_is_sound(phy)
+        && spinup_hold_is_sound(phy)
         && (phy.negotiated() == rate::DISABLED || phy.negotiated() == link::rule_of(phy))
 }
 
@@ -65,6 +67,16 @@ fn signature_is_sound(phy: &Phy) -> bool {
     match phy.held {
         0 => all_zero(&phy.signature),
         _ => phy.is_sata(),
+    }
+}
+
+/// "Byte 104 of a phy block, so far 0, may be 1 on a SATA phy" (W-205), also on one that is
+/// disabled, failed or fixed.
+fn spinup_hold_is_sound(phy: &Phy) -> bool {
+    match phy.spinup_hold {
+        0 => true,
+        1 => phy.is_sata(),
+        _ => false,
     }
 }
 

@@ -39,6 +39,8 @@ pub struct Phy {
     /// The device's lowest and highest rate.
     pub lowest: u8,
     pub highest: u8,
+    /// Held at spin-up (W-205), 0 or 1.
+    pub spinup_hold: u8,
 }
 
 #[derive(Clone, Copy, PartialEq, Eq, Debug)]
@@ -96,6 +98,7 @@ impl Phy {
         fixed: 0,
         lowest: 0,
         highest: 0,
+        spinup_hold: 0,
     };
 
     pub fn port(&self) -> u8 {

@@ -67,6 +67,7 @@ impl Phy {
             fixed: bytes[phy::FIXED],
             lowest: bytes[phy::LOWEST],
             highest: bytes[phy::HIGHEST],
+            spinup_hold: bytes[phy::SPINUP_HOLD],
         }
     }
 
@@ -82,6 +83,7 @@ impl Phy {
         bytes[phy::FIXED] = self.fixed;
         bytes[phy::LOWEST] = self.lowest;
         bytes[phy::HIGHEST] = self.highest;
+        bytes[phy::SPINUP_HOLD] = self.spinup_hold;
         bytes
     }
 }

@@ -21,7 +21,9 @@ pub mod phy {
     pub const FIXED: usize = 101;
     pub const LOWEST: usize = 102;
     pub const HIGHEST: usize = 103;
-    pub const SIZE: usize = 104;
+    /// "Byte 104 of a phy block" (W-205).
+    pub const SPINUP_HOLD: usize = 104;
+    pub const SIZE: usize = 105;
 }
 
 /// A row: in a state, and in the file. The SAS address is first.

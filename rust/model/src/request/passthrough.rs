@@ -48,7 +48,7 @@ pub fn stp_passthrough(
 }
 
 /// "Connected if it is a SATA phy, negotiated 8 or 9, connection rate not above that,
-/// destination = attached SAS address".
+/// destination = attached SAS address". A phy held at spin-up has negotiated no rate (W-205).
 fn connects(phy: &Phy, rate: u8, destination: [u8; 8]) -> bool {
     phy.is_sata()
         && is_rate(phy.negotiated())

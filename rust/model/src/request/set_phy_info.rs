@@ -28,6 +28,8 @@ pub fn set_phy_info(state: &mut State, information: &[u8; at::SIZE]) -> Result<u
     if !programmed.is_sound() || !programmed.is_within(phy.hardware()) {
         return Err(status::LINK_RATE_OUT_OF_RANGE);
     }
+    // "sets the byte to 0 before its link reset, and also when it disables the phy" (W-205)
+    phy.spinup_hold = 0;
     // "Then store class and rates"
     phy.entity[entity::SIGNAL_CLASS] = class;
     phy.set_programmed(programmed);

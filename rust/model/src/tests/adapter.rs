@@ -13,7 +13,7 @@ pub fn address(n: u8) -> [u8; 8] {
     [0x50, 1, 2, 3, 4, 5, 6, n]
 }
 
-fn bare(n: u8, port: u8) -> Phy {
+pub fn bare(n: u8, port: u8) -> Phy {
     let mut phy = Phy::ZERO;
     phy.entity[entity::PHY_IDENTIFIER] = n;
     phy.entity[entity::SIGNAL_CLASS] = 1;
@@ -25,7 +25,7 @@ fn bare(n: u8, port: u8) -> Phy {
     phy
 }
 
-fn attach(mut phy: Phy, device_type: u8, target_protocols: u8, lowest: u8, highest: u8) -> Phy {
+pub fn attach(mut phy: Phy, device_type: u8, target_protocols: u8, lowest: u8, highest: u8) -> Phy {
     let n = phy.entity[entity::PHY_IDENTIFIER];
     phy.entity[entity::ATTACHED] = device_type;
     phy.entity[entity::ATTACHED_TARGET_PROTOCOLS] = target_protocols;
@@ -34,6 +34,14 @@ fn attach(mut phy: Phy, device_type: u8, target_protocols: u8, lowest: u8, highe
     phy.highest = highest;
     phy.entity[entity::NEGOTIATED] = highest;
     phy
+}
+
+/// A phy held at spin-up: 3 in the place of 8 or 9.
+pub fn hold(phy: &mut Phy) {
+    phy.spinup_hold = 1;
+    if matches!(phy.negotiated(), 8 | 9) {
+        phy.entity[entity::NEGOTIATED] = 3;
+    }
 }
 
 /// Five phys: 0 a SATA phy with its signature held, 1 without a device, 2 an expander on port 0,
@@ -60,6 +68,15 @@ pub fn sample() -> State {
     let pinouts = [0x000F_0F03, 1, 2, 0x0000_0800, 0x0001_0000];
     for (n, pinout) in (0..).zip(pinouts) {
         state.connectors[usize::from(n)] = connector(n, pinout);
+    }
+    state
+}
+
+/// The sample with these phys held at spin-up.
+pub fn sample_held(phys: &[usize]) -> State {
+    let mut state = sample();
+    for &n in phys {
+        hold(&mut state.phys[n]);
     }
     state
 }

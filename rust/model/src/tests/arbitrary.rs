@@ -1,6 +1,8 @@
 //! Arbitrary inputs: no panic, and what holds of every call.
 
-use super::adapter::{address, buffer, file, fis, medium, passthrough, sample, sealed};
+use super::adapter::{
+    address, buffer, file, fis, hold, medium, passthrough, sample, sample_held, sealed,
+};
 use crate::layout::file::BLOCK;
 use crate::{denied, fields, open, request, Phy, Row, State};
 
@@ -59,6 +61,17 @@ impl Numbers {
                 body[4..12].copy_from_slice(&address(self.next() as u8 % 5));
                 body
             }
+            21 => {
+                let mut body = self.bytes(24);
+                body[..5].copy_from_slice(&[
+                    self.next() as u8 % 6,
+                    self.next() as u8 % 3,
+                    [0, 8, 9, 7][self.below(4)],
+                    [0, 8, 9, 9][self.below(4)],
+                    self.next() as u8 % 5,
+                ]);
+                body
+            }
             20 => vec![self.byte(); 2052],
             1 => vec![self.byte(); 174],
             2 => vec![self.byte(); 176],
@@ -77,7 +90,7 @@ impl Numbers {
 fn requests_keep_the_state_sound() {
     let mut numbers = Numbers::new(0x1234_5678_9ABC_DEF1);
     let (mut state, mut disk) = (sample(), medium(5));
-    let mut served = 0;
+    let (mut served, mut released) = (0, 0);
     for _ in 0..60_000 {
         let code = [1, 2, 3, 20, 21, 22, 24, 25, 26, 27, 28, 30][numbers.below(12)];
         let body = numbers.body(code);
@@ -90,6 +103,9 @@ fn requests_keep_the_state_sound() {
             sent.truncate(numbers.below(sent.len() + 1));
         }
         state.level = numbers.next() as u8 % 4;
+        if numbers.below(8) == 0 {
+            hold(&mut state.phys[[0, 3, 4][numbers.below(3)]]);
+        }
         let was_denied = denied(&state, &disk, &sent);
         let before = (state.clone(), disk.clone(), sent.clone());
         let number = request(&mut state, &mut disk, &mut sent);
@@ -107,18 +123,21 @@ fn requests_keep_the_state_sound() {
         } else {
             served += 1;
         }
+        let held = |state: &State| state.phys.iter().filter(|phy| phy.spinup_hold == 1).count();
+        released += held(&before.0) - held(&state);
     }
     assert!(served > 5_000, "{served}");
+    assert!(released > 20, "{released}");
 }
 
 #[test]
 fn any_state_and_buffer() {
     let mut numbers = Numbers::new(0xFEED_0000_0000_0001);
     for _ in 0..20_000 {
-        let mut state = if numbers.below(2) == 0 {
-            sample()
-        } else {
-            State::ZERO
+        let mut state = match numbers.below(4) {
+            0 => sample(),
+            1 => sample_held(&[0, 3, 4]),
+            _ => State::ZERO,
         };
         for _ in 0..numbers.below(4) {
             spoil(&mut state, &mut numbers);
@@ -137,7 +156,7 @@ pub fn spoil(state: &mut State, numbers: &mut Numbers) {
     let phy: &mut Phy = &mut state.phys[numbers.below(32)];
     let row: &mut Row = &mut state.rows[numbers.below(64)];
     let connector = &mut state.connectors[numbers.below(32)].0;
-    match numbers.below(13) {
+    match numbers.below(14) {
         0 => state.level = numbers.byte(),
         1 => state.p = numbers.byte(),
         2 => state.a = numbers.byte(),
@@ -150,6 +169,7 @@ pub fn spoil(state: &mut State, numbers: &mut Numbers) {
         9 => state.controller_config[numbers.below(176)] = numbers.byte(),
         10 => state.controller_status[numbers.below(36)] = numbers.byte(),
         11 => connector[numbers.below(36)] = numbers.byte(),
+        12 => phy.spinup_hold = numbers.byte(),
         _ => row.sas_address[numbers.below(8)] = numbers.byte(),
     }
 }
@@ -157,9 +177,9 @@ pub fn spoil(state: &mut State, numbers: &mut Numbers) {
 #[test]
 fn any_file() {
     let mut numbers = Numbers::new(0xABCD_EF01_2345_6789);
-    let sound = file(&sample());
+    let sound = [file(&sample()), file(&sample_held(&[0, 3, 4]))];
     for _ in 0..20_000 {
-        let mut blocks = sound.as_chunks::<BLOCK>().0.to_vec();
+        let mut blocks = sound[numbers.below(2)].as_chunks::<BLOCK>().0.to_vec();
         for _ in 0..numbers.below(3) {
             let k = numbers.below(blocks.len());
             let below = match k {

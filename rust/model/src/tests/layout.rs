@@ -7,7 +7,7 @@ use crate::{request, Connector, Phy, Row, State};
 
 /// Bytes of which neighbours differ, also those a phy's or a row's bytes apart.
 fn counted() -> [u8; SIZE] {
-    std::array::from_fn(|at| (at * 7 + at / 104 * 3 + at / 256) as u8)
+    std::array::from_fn(|at| (at * 7 + at / 105 * 3 + at / 256) as u8)
 }
 
 #[test]
@@ -23,27 +23,28 @@ fn every_field_has_its_place() {
     assert_eq!([state.level, state.p, state.a], bytes[..3]);
     assert_eq!(state.driver_info, bytes[3..177]);
     for (n, phy) in state.phys.iter().enumerate() {
-        let bytes = &bytes[177 + 104 * n..][..104];
+        let bytes = &bytes[177 + 105 * n..][..105];
         assert_eq!(phy.entity, bytes[..64]);
         for (i, counter) in phy.counters.iter().enumerate() {
             assert_eq!(counter.to_le_bytes(), bytes[64 + 4 * i..68 + 4 * i]);
         }
         assert_eq!(phy.signature, bytes[80..100]);
         let rest = [phy.held, phy.fixed, phy.lowest, phy.highest];
-        assert_eq!(rest, bytes[100..]);
+        assert_eq!(rest, bytes[100..104]);
+        assert_eq!(phy.spinup_hold, bytes[104]);
     }
     for (i, row) in state.rows.iter().enumerate() {
-        let bytes = &bytes[3505 + 20 * i..][..20];
+        let bytes = &bytes[3537 + 20 * i..][..20];
         assert_eq!(row.sas_address, bytes[..8]);
         assert_eq!(row.sas_lun, bytes[8..16]);
         assert_eq!(row.os, bytes[16..]);
     }
-    assert_eq!(state.controller_config, bytes[4785..4961]);
-    assert_eq!(state.controller_status, bytes[4961..4997]);
+    assert_eq!(state.controller_config, bytes[4817..4993]);
+    assert_eq!(state.controller_status, bytes[4993..5029]);
     for (n, connector) in state.connectors.iter().enumerate() {
-        assert_eq!(connector.0, bytes[4997 + 36 * n..][..36]);
+        assert_eq!(connector.0, bytes[5029 + 36 * n..][..36]);
     }
-    assert_eq!(SIZE, 6149);
+    assert_eq!(SIZE, 6181);
 }
 
 #[test]
@@ -100,6 +101,7 @@ fn any_phy(numbers: &mut Numbers) -> Phy {
         fixed: numbers.byte(),
         lowest: numbers.byte(),
         highest: numbers.byte(),
+        spinup_hold: numbers.byte(),
     }
 }
 

@@ -79,7 +79,7 @@ fn number_104_counts() {
 fn number_104_unnamed_bytes() {
     let named = |k: usize, at: usize| match k {
         0 => at < 2 || (4..178).contains(&at),
-        1..=5 => at < 104,
+        1..=5 => at < 105,
         6 => at < 40,
         7 => at < 212,
         _ => at < 36,

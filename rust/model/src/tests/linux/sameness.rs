@@ -3,7 +3,7 @@
 //! the other header's checks, at Full"; and arbitrary inputs.
 
 use super::{buffer, code_of, return_code};
-use crate::tests::adapter::{self, medium, sample};
+use crate::tests::adapter::{self, hold, medium, sample, sample_held};
 use crate::tests::arbitrary::{spoil, Numbers};
 use crate::tests::header::bodies;
 use crate::{fields, request, request_linux, State};
@@ -65,6 +65,11 @@ fn the_first_header_at_full() {
         linux[4..8].copy_from_slice(&of_linux.to_le_bytes());
         linux[16] = numbers.next() as u8 % 2;
         other.level = numbers.next() as u8 % 4;
+        if numbers.below(8) == 0 {
+            let phy = [0, 3, 4][numbers.below(3)];
+            hold(&mut one.phys[phy]);
+            hold(&mut other.phys[phy]);
+        }
 
         assert_eq!(request(&mut one, &mut one_disk, &mut first), 0);
         let code = code_of(&mut other, &mut other_disk, CODES[n], &mut linux);
@@ -85,6 +90,7 @@ fn any_state_and_buffer() {
     for _ in 0..20_000 {
         let mut state = match numbers.below(4) {
             0 => State::ZERO,
+            1 => sample_held(&[0, 3, 4]),
             _ => sample(),
         };
         for _ in 0..numbers.below(3) {
