@@ -116,23 +116,23 @@ module _ (text file : List ℕ) (store : Store) (h : openedOf text file (store .
       last-by start sized-opened (sectorWriter (selectsBy file)) s (λ (p : Point). sectorIn (p .store) s)
       (λ p r i. rw (← (selects-same p i)) (request-effect p r (sized-reached start sized-opened p i) .store .sectors s))
 
-  -- the minimum and the maximum alike: a rate whose byte stands at a place of the body
-  module _ (place : ℕ) (rate : Phy → ℕ) (n : ℕ) (l : n < phyCount file) where
-    abbrev rateAt : Point → ℕ
-    rateAt p = rate (phyIn (p .state .adapter) n)
+  -- whatever is written of a phy, alike
+  module _ (w : Writer ℕ ℕ) (view : Phy → ℕ) (n : ℕ) (l : n < phyCount file) where
+    abbrev seen : Point → ℕ
+    seen p = view (phyIn (p .state .adapter) n)
 
-    rates-last : ((p : Point) (r : Request) → Reached start p → rateAt (step p r) ≡ after (rateWriter place) n (toldBy (exchangeOf r (handled p r))) (rateAt p))
+    pub phys-last : ((p : Point) (r : Request) → Reached start p → seen (step p r) ≡ after w n (toldBy (exchangeOf r (handled p r))) (seen p))
         → (requests : List Request)
-        → rateAt (wholeRun text file store requests .point) ≡ last (rateWriter place) n (rate (filePhy file n)) (exchanges (wholeRun text file store requests .log))
-    rates-last s requests = rw (starts n l) at (last-by start sized-opened (rateWriter place) n rateAt s requests)
+        → seen (wholeRun text file store requests .point) ≡ last w n (view (filePhy file n)) (exchanges (wholeRun text file store requests .log))
+    phys-last s requests = rw (starts n l) at (last-by start sized-opened w n seen s requests)
 
   minima-last : (n : ℕ) → n < phyCount file → (requests : List Request) → programmedMinimum (phyIn (wholeRun text file store requests .point .state .adapter) n)
       ≡ last (rateWriter 2) n (programmedMinimum (filePhy file n)) (exchanges (wholeRun text file store requests .log))
-  minima-last n l = rates-last 2 programmedMinimum n l (λ p r i. request-effect p r (sized-reached start sized-opened p i) .tables .minima n)
+  minima-last n l = phys-last (rateWriter 2) programmedMinimum n l (λ p r i. request-effect p r (sized-reached start sized-opened p i) .tables .minima n)
 
   maxima-last : (n : ℕ) → n < phyCount file → (requests : List Request) → programmedMaximum (phyIn (wholeRun text file store requests .point .state .adapter) n)
       ≡ last (rateWriter 3) n (programmedMaximum (filePhy file n)) (exchanges (wholeRun text file store requests .log))
-  maxima-last n l = rates-last 3 programmedMaximum n l (λ p r i. request-effect p r (sized-reached start sized-opened p i) .tables .maxima n)
+  maxima-last n l = phys-last (rateWriter 3) programmedMaximum n l (λ p r i. request-effect p r (sized-reached start sized-opened p i) .tables .maxima n)
 
 -- ---- where it refuses
 

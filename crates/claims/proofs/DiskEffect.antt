@@ -26,7 +26,7 @@ use Rattle.select.proofs.Laws.{selected-below}
 use Rattle.stp.specs.Body.{phyAsked, portAsked, connectionRate, destinationOf}
 use Rattle.passthrough.specs.Passthrough.{Passed, passes, formHolds, connected, diskOf, onDisk, sentTo, passedTo, passthrough}
 use Rattle.service.specs.Serve.{Store, withMedium, passed}
-use Rattle.claims.specs.LastWriter.{Told, after, Sector, sectorIn, sectorWriter, rateWriter}
+use Rattle.claims.specs.LastWriter.{Told, after, Sector, sectorIn, sectorWriter}
 use Rattle.claims.proofs.Effect.{quiet-other, selectsIn, OnStore, Does, tables-kept, no-effect}
 
 -- ---- the ways that it can go
@@ -160,7 +160,7 @@ passthrough-effect ad store body h r =
     (λ c. record {
       small = disk-code ad store body h r c;
       effect = record {
-        tables = tables-kept ad (told ad store body h r c) (λ place. quiet-other (rateWriter place) (told ad store body h r c) (λ e. omega arith));
+        tables = tables-kept ad (told ad store body h r c) (λ w e. quiet-other w (told ad store body h r c) (λ q. omega arith));
         store = disk-store ad store body h r c;
       };
     })

@@ -23,6 +23,7 @@ use Rattle.stp.specs.Body.{phyAsked, portAsked}
 use Rattle.state.specs.State.{adapterHolds}
 use Rattle.service.specs.Serve.{Store, Served}
 use Rattle.claims.specs.LastWriter.{Told, Writer, after, Sector, sectorIn, sectorWriter, rateWriter}
+use Rattle.claims.specs.SpinUp.{holdWriter}
 use Rattle.claims.proofs.Ways.{toldOf}
 use Rattle.claims.proofs.Moved.{Sized, Moved, moved-refl, stored-by, moved-stored, few-phys, stored-holds}
 
@@ -50,12 +51,14 @@ module _ {K A : Type 0} (w : Writer K A) (t : Told) where
 abbrev pub selectsIn : Adapter → List ℕ → Selection
 selectsIn ad body = selectIn ad (phyAsked body) (portAsked body)
 
--- on the tables: what no request changes stays, the rules of the state go on holding, and the programmed rates are as the request tells
+-- on the tables: what no request changes stays, the rules of the state go on holding, and the programmed rates and the
+-- holds at spin-up are as the request tells
 pub record OnTables (ad : Adapter) (t : Told) (bd : Adapter) : Type 0 where
   pub moved : Moved ad bd
   pub holds : adapterHolds ad ≡ true → adapterHolds bd ≡ true
   pub minima : (n : ℕ) → programmedMinimum (phyIn bd n) ≡ after (rateWriter 2) n t (programmedMinimum (phyIn ad n))
   pub maxima : (n : ℕ) → programmedMaximum (phyIn bd n) ≡ after (rateWriter 3) n t (programmedMaximum (phyIn ad n))
+  pub hold : (n : ℕ) → phyIn bd n .«spinup_hold» ≡ after holdWriter n t (phyIn ad n .«spinup_hold»)
 
 -- on what is lent beside them: the disks keep their length, and the sectors are as the request tells
 pub record OnStore (ad : Adapter) (t : Told) (before next : Store) : Type 0 where
@@ -74,8 +77,16 @@ pub record Does (ad : Adapter) (store : Store) (control : ℕ) (body : List ℕ)
 -- ---- none
 
 module _ (ad : Adapter) (t : Told) where
-  pub tables-kept : ((place : ℕ) → Quiet (rateWriter place) t) → OnTables ad t ad
-  tables-kept q = record { moved = moved-refl ad; holds = λ h. h; minima = λ n. sym (q 2 n _); maxima = λ n. sym (q 3 n _) }
+  -- where whatever code 21 writes of a phy stays
+  pub tables-kept : ((w : Writer ℕ ℕ) → w .code ≡ setPhyInfo → Quiet w t) → OnTables ad t ad
+  tables-kept q =
+      record {
+        moved = moved-refl ad;
+        holds = λ h. h;
+        minima = λ n. sym (q (rateWriter 2) refl n _);
+        maxima = λ n. sym (q (rateWriter 3) refl n _);
+        hold = λ n. sym (q holdWriter refl n _);
+      }
 
   pub store-kept : (store : Store) → Quiet (sectorWriter (selectsIn ad)) t → OnStore ad t store store
   store-kept store q = record { size = refl; sectors = λ s. sym (q s _) }
@@ -83,17 +94,17 @@ module _ (ad : Adapter) (t : Told) where
   -- of what was not granted
   pub no-effect : (store : Store) → t .granted ≡ false → Effect ad store t ad store
   no-effect store g =
-      record { tables = tables-kept (λ place. quiet-refused (rateWriter place) t g); store = store-kept store (quiet-refused (sectorWriter (selectsIn ad)) t g) }
+      record { tables = tables-kept (λ w _. quiet-refused w t g); store = store-kept store (quiet-refused (sectorWriter (selectsIn ad)) t g) }
 
   -- of a code that sets no rate and writes no sector: those that only report, whether they were granted or not
   pub report-effect : (store : Store) → (t .control ≡ setPhyInfo → ⊥) → (t .control ≡ stpPassthru → ⊥) → Effect ad store t ad store
   report-effect store n m =
-      record { tables = tables-kept (λ place. quiet-other (rateWriter place) t n); store = store-kept store (quiet-other (sectorWriter (selectsIn ad)) t m) }
+      record { tables = tables-kept (λ w e. quiet-other w t (λ q. n (q ∙ e))); store = store-kept store (quiet-other (sectorWriter (selectsIn ad)) t m) }
 
 -- ---- one phy stored
 
--- a phy that may be stored as phy n: it keeps what no request changes, passes the rules, and has the rates that the request tells, which sets
--- those of no other phy
+-- a phy that may be stored as phy n: it keeps what no request changes, passes the rules, and has the rates and the hold that the request tells,
+-- which sets those of no other phy
 pub record Storing (ad : Adapter) (t : Told) (n : ℕ) (phy : Phy) : Type 0 where
   pub below : n < ad .«phy_count»
   pub kept : Kept (phyIn ad n) phy
@@ -101,7 +112,9 @@ pub record Storing (ad : Adapter) (t : Told) (n : ℕ) (phy : Phy) : Type 0 wher
   pub negotiated : negotiatedHolds phy ≡ true
   pub minimum : programmedMinimum phy ≡ after (rateWriter 2) n t (programmedMinimum (phyIn ad n))
   pub maximum : programmedMaximum phy ≡ after (rateWriter 3) n t (programmedMaximum (phyIn ad n))
+  pub hold : phy .«spinup_hold» ≡ after holdWriter n t (phyIn ad n .«spinup_hold»)
   pub others : (place m before : ℕ) → m ≢ n → after (rateWriter place) m t before ≡ before
+  pub otherHolds : (m before : ℕ) → m ≢ n → after holdWriter m t before ≡ before
 
 -- one that a code other than 21 stores: its settings stay
 pub storing-kept : (ad : Adapter) (t : Told) (n : ℕ) (phy : Phy) → (t .control ≡ setPhyInfo → ⊥) → n < ad .«phy_count» → Kept (phyIn ad n) phy
@@ -114,7 +127,9 @@ storing-kept ad t n phy c k v f g s =
       negotiated = g;
       minimum = s .minimum ∙ sym (quiet-other (rateWriter 2) t c n (programmedMinimum (phyIn ad n)));
       maximum = s .maximum ∙ sym (quiet-other (rateWriter 3) t c n (programmedMaximum (phyIn ad n)));
+      hold = s .hold ∙ sym (quiet-other holdWriter t c n (phyIn ad n .«spinup_hold»));
       others = λ place m before _. quiet-other (rateWriter place) t c m before;
+      otherHolds = λ m before _. quiet-other holdWriter t c m before;
     }
 
 pub stored-effect : (ad : Adapter) (t : Told) (n : ℕ) (phy : Phy) → adapterHolds ad ≡ true → Sized ad → Storing ad t n phy → OnTables ad t (withPhy ad n phy)
@@ -127,4 +142,6 @@ stored-effect ad t n phy h z s =
           (λ i d. sym (s .others 2 i _ d));
       maxima = stored-by (λ (i : ℕ) (x : Phy). programmedMaximum x ≡ after (rateWriter 3) i t (programmedMaximum (phyIn ad i))) ad n phy m (s .maximum)
           (λ i d. sym (s .others 3 i _ d));
+      hold = stored-by (λ (i : ℕ) (x : Phy). x .«spinup_hold» ≡ after holdWriter i t (phyIn ad i .«spinup_hold»)) ad n phy m (s .hold)
+          (λ i d. sym (s .otherHolds i _ d));
     }

@@ -12,4 +12,5 @@ pub mod Sameness
 pub mod PastBoth
 pub mod ReadOnly
 pub mod Reporting
+pub mod SpinUp
 pub mod Starred

@@ -2,10 +2,11 @@
 use mathlib.Core.Path.{_≡_, refl, sym, _∙_}
 use mathlib.Core.Logic.{_≢_}
 use mathlib.Core.Bool.{true, _&&_}
+use mathlib.Core.List.{List}
 use Prim.Native.Nat.{ℕ, _<_, _≤_}
 use native.Mathlib.Omega.{arith}
 use native.Mathlib.Decide.{ℕ-discrete}
-use lib.ListN.{length, length-set}
+use lib.ListN.{length, drop, length-drop, length-set}
 use Rattle.laws.specs.Choice.{both, both-left, both-right}
 use Rattle.phy.specs.declared.Phy.{Phy}
 use Rattle.phy.proofs.KeptLaws.{Kept, kept-refl, kept-trans}
@@ -16,12 +17,23 @@ use Rattle.adapter.proofs.StoreLaws.{phy-stored, phy-other, counts-stored, rows
 use Rattle.link.specs.Rule.{negotiatedHolds}
 use Rattle.link.specs.All.{negotiatedAll}
 use Rattle.link.proofs.AllLaws.{negotiated-at, negotiated-stored}
-use Rattle.state.specs.State.{tablesHold, adapterHolds}
+use Rattle.tables.proofs.Laws.{tables-phys, tables-entity}
+use Rattle.state.specs.State.{stateSize, stateOf, tablesHold, adapterHolds, stateHolds}
+use Rattle.state.proofs.Laws.{state-phys}
 
 -- the arrays have the lengths of their types: 32 phys, and 64 entity bytes in each below p
 pub record Sized (ad : Adapter) : Type 0 where
   pub phys : length (ad .phys) ≡ 32
   pub entities : (n : ℕ) → n < ad .«phy_count» → length (phyIn ad n .entity) ≡ 64
+
+-- the arrays of a lent state have the lengths of their types
+pub sized-lent : (t : List ℕ) → length t ≡ stateSize → stateHolds (stateOf t) ≡ true → Sized (stateOf t .adapter)
+unfolding stateOf
+sized-lent t e h =
+    record {
+      phys = tables-phys (drop 1 t);
+      entities = λ n l. tables-entity (drop 1 t) n (rw (length-drop, e) refl) (omega (arith, state-phys (stateOf t) true (sym h) refl));
+    }
 
 -- ---- what no request changes: the counts, the rows, and of every phy what `Kept` says
 

@@ -9,17 +9,17 @@ use lib.Dec.{eqb, leb, ltb}
 use lib.ListN.{length, getD}
 use borrow.Author.Tests.{eq-eqb, ne-eqb, ltb-true}
 use Rattle.laws.specs.Choice.{by-bool, both-right, either, either-by}
-use Rattle.codes.specs.Codes.{sataSpinupHold, success, setPhyInfo, getLinkErrors, resetPlace, linkErrorResetCounts}
+use Rattle.codes.specs.Codes.{success, setPhyInfo, getLinkErrors, resetPlace, linkErrorResetCounts}
 use Rattle.phy.specs.declared.Phy.{Phy}
 use Rattle.phy.specs.declared.PhyIdentifier.{PhyIdentifier}
-use Rattle.phy.specs.Entity.{negotiatedOf, programmedMinimum, programmedMaximum}
+use Rattle.phy.specs.Entity.{programmedMinimum, programmedMaximum}
 use Rattle.phy.specs.Change.{released, cleared, configured}
 use Rattle.phy.proofs.KeptLaws.{Kept, Settings, kept-trans}
 use Rattle.phy.proofs.ChangedLaws.{kept-released, hold-released, kept-cleared, settings-cleared, kept-configured, hold-configured, minimum-configured, maximum-configured}
 use Rattle.fields.specs.Rules.{rangeHolds, fieldsHold}
 use Rattle.fields.proofs.HoldLaws.{range-released, fields-released, fields-cleared, fields-configured}
 use Rattle.link.specs.Rule.{negotiatedHolds}
-use Rattle.link.proofs.KeptLaws.{kept-reset, settings-reset, reset-free, kept-disabled, settings-disabled, disabled-free, holds-cleared, holds-reset, holds-disabled, fields-reset, fields-disabled}
+use Rattle.link.proofs.KeptLaws.{kept-reset, settings-reset, kept-disabled, settings-disabled, holds-cleared, holds-reset, holds-disabled, fields-reset, fields-disabled}
 use Rattle.adapter.specs.Adapter.{Adapter, phyIn, withPhy}
 use Rattle.adapter.specs.Changed.{Stored, Changed, leaves, withBody}
 use Rattle.set_phy_info.specs.declared.PhySetting.{PhySetting}
@@ -28,6 +28,7 @@ use Rattle.link_errors.specs.LinkErrors.{afterReset, linkErrors, countersShown}
 use Rattle.state.specs.State.{adapterHolds}
 use Rattle.service.specs.Serve.{Store, changed}
 use Rattle.claims.specs.LastWriter.{Told, after, rateWriter, sectorWriter}
+use Rattle.claims.specs.SpinUp.{holdWriter}
 use Rattle.claims.proofs.Moved.{Sized, fields-in, negotiated-in}
 use Rattle.claims.proofs.Effect.{quiet-other, selectsIn, Does, store-kept, no-effect, report-effect, Storing, storing-kept, stored-effect}
 
@@ -70,11 +71,6 @@ module _ (phy : Phy) (s : PhySetting) (minimum maximum : ℕ) (e : length (phy .
   set-negotiated : negotiatedHolds (setTo phy s minimum maximum) ≡ true
   unfolding setTo relinked
   set-negotiated = either (λ (x : Phy). negotiatedHolds x ≡ true) (eqb (s .negotiated) 1) (holds-disabled set long) (holds-reset set long)
-
-  -- W-205: "so no link reset gives 3", and a phy that it disables has 1
-  set-rate : negotiatedOf (setTo phy s minimum maximum) ≢ sataSpinupHold
-  unfolding setTo relinked
-  set-rate = either (λ (x : Phy). negotiatedOf x ≢ sataSpinupHold) (eqb (s .negotiated) 1) (disabled-free set long) (reset-free set long set-free)
 
   set-fields : (n : PhyIdentifier) (p : ℕ) → parametersHold s ≡ true → ratesAllowed phy s minimum maximum ≡ true → fieldsHold phy n p ≡ true
       → fieldsHold (setTo phy s minimum maximum) n p ≡ true
@@ -129,6 +125,16 @@ told-other : (body : List ℕ) (place m before : ℕ) → m ≢ named body → a
 unfolding after
 told-other body place m before d = rw (ne-eqb (named body) m (λ q. d (sym q))) refl
 
+-- ---- code 21: the hold at spin-up that it tells
+
+told-hold : (body : List ℕ) (before : ℕ) → after holdWriter (named body) (toldSet body) before ≡ 0
+unfolding after
+told-hold body before = rw (eq-eqb (named body) (named body) refl) refl
+
+held-other : (body : List ℕ) (m before : ℕ) → m ≢ named body → after holdWriter m (toldSet body) before ≡ before
+unfolding after
+held-other body m before d = rw (ne-eqb (named body) m (λ q. d (sym q))) refl
+
 -- ---- code 22: the ways that it can go
 
 module _ (ad : Adapter) (body : List ℕ) where
@@ -173,7 +179,9 @@ module _ (ad : Adapter) (store : Store) (body : List ℕ) (h : adapterHolds ad �
         negotiated = set-negotiated phy (phySetting body) l u e;
         minimum = s .minimum ∙ minimum-configured (released phy) (phySetting body .class) l u f ∙ sym (told-rate 2 body (programmedMinimum phy));
         maximum = s .maximum ∙ maximum-configured (released phy) (phySetting body .class) l u f ∙ sym (told-rate 3 body (programmedMaximum phy));
+        hold = s .hold ∙ set-free phy (phySetting body) l u e ∙ sym (told-hold body (phy .«spinup_hold»));
         others = told-other body;
+        otherHolds = held-other body;
       }
 
   pub set-effect : Does ad store setPhyInfo body (changed store (setInfo ad body))

@@ -5,4 +5,5 @@ pub mod RoundTrip
 pub mod Sameness
 pub mod ReadOnly
 pub mod Reporting
+pub mod SpinUp
 pub mod Starred

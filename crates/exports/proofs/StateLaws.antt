@@ -1,19 +1,16 @@
 -- The state of a run: it begins with the one that the opening leaves, and the number of state and medium stays what it was. Assumes nothing.
 use mathlib.Core.Path.{_≡_, refl, sym, _∙_, ap}
-use mathlib.Core.Bool.{Bool, true}
+use mathlib.Core.Bool.{Bool}
 use mathlib.Core.List.{List}
 use Prim.Native.Nat.{ℕ, _/_}
-use native.Mathlib.Omega.{arith}
-use lib.ListN.{length, take, drop, length-drop}
+use lib.ListN.{length, take}
 use Rattle.laws.specs.Choice.{by-bool}
 use Rattle.state.specs.State.{stateSize, stateOf, stateHolds}
 use Rattle.state.specs.Open.{Opened, OpenCall}
-use Rattle.state.proofs.Laws.{state-phys}
-use Rattle.tables.proofs.Laws.{tables-phys, tables-entity}
 use Rattle.header.specs.Sent.{Request}
 use Rattle.service.specs.Serve.{storeOf}
 use Rattle.dispatch.specs.Request.{Point, point, Outcome, stateNumber, pointNumber, handled}
-use Rattle.claims.proofs.Moved.{Sized}
+use Rattle.claims.proofs.Moved.{sized-lent}
 use Rattle.claims.proofs.Reached.{refused-stays, number-step}
 use Rattle.exports.specs.declared.frames.Framing.{Framing}
 use Rattle.exports.specs.Frames.{requestIn}
@@ -28,15 +25,6 @@ unfolding sessionRun ranFrom
 opened-ran f text file medium state after call o e session lines r p = rw (ap (λ (x : Opened). x .state) (o .whole e)) at p
 
 -- ---- the number of state and medium
-
--- the arrays of a lent state have the lengths of their types
-sized-lent : (t : List ℕ) → length t ≡ stateSize → stateHolds (stateOf t) ≡ true → Sized (stateOf t .adapter)
-unfolding stateOf
-sized-lent t e h =
-    record {
-      phys = tables-phys (drop 1 t);
-      entities = λ n l. tables-entity (drop 1 t) n (rw (length-drop, e) refl) (omega (arith, state-phys (stateOf t) true (sym h) refl));
-    }
 
 -- it stays; a state that 107 refuses is not touched
 number-kept : (t medium : List ℕ) (r : Request) → length t ≡ stateSize

@@ -6,12 +6,12 @@ use Prim.Native.Nat.{ℕ}
 use native.Mathlib.Omega.{arith}
 use lib.Dec.{eqb}
 use lib.ListN.{length}
-use borrow.Author.Tests.{eq-eqb}
-use Rattle.laws.specs.Choice.{by-bool, either}
+use borrow.Author.Tests.{eq-eqb, eqb-true}
+use Rattle.laws.specs.Choice.{by-bool, both-left, both-right, either}
 use Rattle.phy.specs.declared.Phy.{Phy}
 use Rattle.phy.specs.declared.PhyIdentifier.{PhyIdentifier}
-use Rattle.phy.specs.Entity.{noDevice, negotiatedOf, programmedMinimum, programmedMaximum}
-use Rattle.phy.specs.Change.{cleared, raised, negotiatedAs}
+use Rattle.phy.specs.Entity.{attachedType, noDevice, negotiatedOf, programmedMinimum, programmedMaximum}
+use Rattle.phy.specs.Change.{released, cleared, raised, negotiatedAs}
 use Rattle.fields.specs.Rules.{isRate, fieldsHold}
 use Rattle.phy.proofs.KeptLaws.{Kept, Settings, kept-trans, settings-trans}
 use Rattle.phy.proofs.ChangedLaws.{kept-cleared, kept-raised, kept-negotiated, settings-cleared, settings-raised, settings-negotiated, negotiated-cleared, negotiated-raised, negotiated-now}
@@ -40,28 +40,50 @@ rates-free none minimum maximum lowest highest =
     (either No (inBoth linkRate30 minimum maximum lowest highest) (λ e. omega arith)
     (either No (inBoth linkRate15 minimum maximum lowest highest) (λ e. omega arith) (λ e. omega arith)))
 
-not-held : (hold rate : ℕ) → hold ≡ 0 → heldRate hold rate ≡ rate
-unfolding heldRate
-not-held hold rate e = rw e refl
+module _ (hold rate : ℕ) where
+  waits : rate ≢ sataSpinupHold → heldRate hold rate ≡ sataSpinupHold → (hold ≡ 1) × (isRate rate ≡ true)
+  unfolding heldRate
+  waits n =
+      by-bool (λ (t : Bool). eqb hold 1 && isRate rate ≡ t → cond t sataSpinupHold rate ≡ sataSpinupHold → (hold ≡ 1) × (isRate rate ≡ true))
+      (λ p _. (eqb-true hold 1 (both-left (eqb hold 1) (isRate rate) p), both-right (eqb hold 1) (isRate rate) p))
+      (λ _ q. absurd (n q)) (eqb hold 1 && isRate rate) refl
 
--- so the rule of a phy that is not held never gives 3,
-rule-free : (phy : Phy) → phy .«spinup_hold» ≡ 0 → ruleOf phy ≢ sataSpinupHold
-unfolding ruleOf
-rule-free phy e q =
-    let rate : ℕ = ratesRule (noDevice phy) (programmedMinimum phy) (programmedMaximum phy) (phy .lowest) (phy .highest) in
-    rates-free (noDevice phy) (programmedMinimum phy) (programmedMaximum phy) (phy .lowest) (phy .highest)
-    (sym (not-held (phy .«spinup_hold») rate e) ∙ q)
+  no-rate : hold ≡ 1 → isRate (heldRate hold rate) ≡ false
+  unfolding heldRate isRate
+  no-rate e =
+      rw e (by-bool (λ (t : Bool). isRate rate ≡ t → isRate (cond t sataSpinupHold rate) ≡ false) (λ _. refl) (λ p. p) (isRate rate) refl)
 
--- and that of one that is held never a rate
-held-rate : (hold rate : ℕ) → hold ≡ 1 → isRate (heldRate hold rate) ≡ false
-unfolding heldRate isRate
-held-rate hold rate e =
-    rw e (by-bool (λ (t : Bool). isRate rate ≡ t → isRate (cond t sataSpinupHold rate) ≡ false) (λ _. refl) (λ p. p) (isRate rate) refl)
+module _ (phy : Phy) where
+  -- the rate of the two ranges
+  abbrev plain : ℕ
+  plain = ratesRule (noDevice phy) (programmedMinimum phy) (programmedMaximum phy) (phy .lowest) (phy .highest)
 
-pub rule-held : (phy : Phy) → phy .«spinup_hold» ≡ 1 → isRate (ruleOf phy) ≡ false
-unfolding ruleOf
-rule-held phy e =
-    held-rate (phy .«spinup_hold») (ratesRule (noDevice phy) (programmedMinimum phy) (programmedMaximum phy) (phy .lowest) (phy .highest)) e
+  -- so the rule gives 3 only where the phy is held, and would have a rate if it were not,
+  rule-waits : ruleOf phy ≡ sataSpinupHold → (phy .«spinup_hold» ≡ 1) × (isRate (ruleOf (released phy)) ≡ true)
+  unfolding ruleOf heldRate released noDevice attachedType programmedMinimum programmedMaximum
+  rule-waits e =
+      waits (phy .«spinup_hold») plain (rates-free (noDevice phy) (programmedMinimum phy) (programmedMaximum phy) (phy .lowest) (phy .highest)) e
+
+  -- and of a phy that is held it gives no rate
+  rule-held : phy .«spinup_hold» ≡ 1 → isRate (ruleOf phy) ≡ false
+  unfolding ruleOf
+  rule-held e = no-rate (phy .«spinup_hold») plain e
+
+  -- the same of the rate that stands there
+  module _ (h : negotiatedHolds phy ≡ true) where
+    pub rate-waits : negotiatedOf phy ≡ sataSpinupHold → (phy .«spinup_hold» ≡ 1) × (isRate (ruleOf (released phy)) ≡ true)
+    unfolding negotiatedHolds
+    rate-waits e =
+        let q : eqb sataSpinupHold (ruleOf phy) ≡ true = rw e at h in
+        rule-waits (sym (eqb-true sataSpinupHold (ruleOf phy) q))
+
+    pub rate-held : phy .«spinup_hold» ≡ 1 → isRate (negotiatedOf phy) ≡ false
+    unfolding negotiatedHolds isRate
+    rate-held e =
+        by-bool (λ (t : Bool). eqb (negotiatedOf phy) phyDisabled ≡ t → isRate (negotiatedOf phy) ≡ false)
+        (λ p. rw (eqb-true (negotiatedOf phy) phyDisabled p) refl)
+        (λ p. rw (eqb-true (negotiatedOf phy) (ruleOf phy) (rw p at h)) (rule-held e))
+        (eqb (negotiatedOf phy) phyDisabled) refl
 
 -- the rule goes by what neither changes
 rule-kept : (a b : Phy) → Kept a b → Settings a b → ruleOf b ≡ ruleOf a
@@ -110,10 +132,6 @@ module _ (phy : Phy) where
       (negotiated-raised linked ∙ negotiated-now phy (ruleOf phy) e)
       (negotiated-now phy (ruleOf phy) e)
 
-  -- "so no link reset gives 3"
-  pub reset-free : length (phy .entity) ≡ 64 → phy .«spinup_hold» ≡ 0 → negotiatedOf (reset phy) ≢ sataSpinupHold
-  reset-free e f = rw (negotiated-reset e) (rule-free phy f)
-
   pub holds-reset : length (phy .entity) ≡ 64 → negotiatedHolds (reset phy) ≡ true
   holds-reset e = given (reset phy) (negotiated-reset e ∙ sym (rule-kept phy (reset phy) kept-reset settings-reset))
 
@@ -134,9 +152,6 @@ module _ (phy : Phy) where
   negotiated-disabled : length (phy .entity) ≡ 64 → negotiatedOf (disabled phy) ≡ phyDisabled
   unfolding disabled
   negotiated-disabled e = negotiated-now phy phyDisabled e
-
-  pub disabled-free : length (phy .entity) ≡ 64 → negotiatedOf (disabled phy) ≢ sataSpinupHold
-  disabled-free e = rw (negotiated-disabled e) (λ q. omega arith)
 
   pub holds-disabled : length (phy .entity) ≡ 64 → negotiatedHolds (disabled phy) ≡ true
   unfolding negotiatedHolds
