@@ -65,11 +65,14 @@ const CALL_NUMBERS: [(u32, &str); 8] = [
 /// The levels from 0 on.
 pub const LEVELS: [&str; 4] = ["None", "Restricted", "Limited", "Full"];
 
+/// The negotiated rate of a phy held at spin-up.
+pub const SATA_SPINUP_HOLD: u8 = 3;
+
 const LINK_RATES: [(u32, &str); 6] = [
     (0, "unknown"),
     (1, "disabled"),
     (2, "failed"),
-    (3, "spin-up hold"),
+    (SATA_SPINUP_HOLD as u32, "spin-up hold"),
     (8, "1.5 Gb/s"),
     (9, "3.0 Gb/s"),
 ];
@@ -216,6 +219,7 @@ mod tests {
         assert_eq!(return_words(77), "77 (no name)");
         assert_eq!(call_words(104), "104 count or field");
         assert_eq!(rate_words(8), "8 (1.5 Gb/s)");
+        assert_eq!(rate_words(3), "3 (spin-up hold)");
         assert_eq!(device_words(0x20), "edge expander");
         assert_eq!(ata_words(0x51, 0x04), "ATA 51h 04h error, aborted");
         assert_eq!(ata_words(0x41, 0x00), "ATA 41h 00h (no name)");
@@ -226,6 +230,7 @@ mod tests {
     fn no_number_twice() {
         let rising = |table: &[(u32, &str)]| table.windows(2).all(|w| w[0].0 < w[1].0);
         assert!(rising(&CONTROL_CODES) && rising(&RETURN_CODES) && rising(&CALL_NUMBERS));
+        assert!(rising(&LINK_RATES));
         for names in [BUSES, STATUSES, OFFLINE_REASONS] {
             assert!(rising(names));
         }

@@ -141,6 +141,7 @@ phy attached=sata signature=ata attached-address=5000C50000000001 invalid-dword=
 phy attached=edge port=0
 phy pinout=sff-8470-lane-1+sff-8484-lane-4 connector=\"J1\" location=external
 phy pinout=0 connector=FF*16 location=unknown+40h connector-reserved=19*15
+phy attached=sata fixed=1 spin-up-hold=1 connector=\"J2\"
 row address=5000C50000000001 target=1
 row address=5000C50000000002 lun=0001000000000000 host=1 path=2 target=3 os-lun=4
 ";
@@ -155,7 +156,11 @@ row address=5000C50000000002 lun=0001000000000000 host=1 path=2 target=3 os-lun=
             "byte 0 1 65\n",
             "byte 0 1 26\n",
             "byte 1 36 40h\n",
+            "byte 1 104 1\n",
+            "byte 2 104 FFh\n",
+            "byte 1 105 1\n",
             "byte 2 507 1\n",
+            "damage 1 104 1\n",
             "length 511\n",
             "length 0\n",
             "length 5000\ndamage 7 3 09h\n",
@@ -186,6 +191,22 @@ row address=5000C50000000002 lun=0001000000000000 host=1 path=2 target=3 os-lun=
                 let mut file = whole.clone();
                 file[at] = value;
                 round(&file);
+            }
+        }
+    }
+
+    /// Every value of a phy's spin-up hold, with the check made good and with the check that another value had.
+    #[test]
+    fn every_spin_up_hold_comes_back() {
+        for kind in ["none", "sata", "sas", "edge", "fanout"] {
+            for hold in 0..=255 {
+                let sealed =
+                    parse(&format!("phy\nphy attached={kind}\nbyte 2 104 {hold}")).unwrap();
+                let text = round(&sealed);
+                assert!(!text.contains("byte"), "{text}");
+                let mut damaged = sealed.clone();
+                damaged[2 * BLOCK + 104] ^= 1;
+                assert!(round(&damaged).contains("\ndamage "));
             }
         }
     }

@@ -18,8 +18,8 @@ pub const DRIVER: [Field; 8] = [
     number("csmi-minor", 172, 2),
 ];
 
-/// A phy's block: the PHY_ENTITY (6.7.4.2) in bytes 0 to 63, then what document 01 puts behind it.
-pub const PHY: [Field; 36] = [
+/// A phy's block: the PHY_ENTITY (6.7.4.2) in bytes 0 to 63, then what document 01 and W-205 put behind it.
+pub const PHY: [Field; 37] = [
     code("device-type", 0),
     code("restricted", 1),
     code("initiator", 2),
@@ -56,6 +56,7 @@ pub const PHY: [Field; 36] = [
     byte("fixed", 101),
     byte("lowest", LOWEST),
     byte("highest", HIGHEST),
+    byte("spin-up-hold", SPIN_UP_HOLD),
 ];
 
 pub const IDENTIFIER: usize = 20;
@@ -71,6 +72,7 @@ pub const SIGNATURE: usize = 80;
 pub const HELD: usize = 100;
 pub const LOWEST: usize = 102;
 pub const HIGHEST: usize = 103;
+pub const SPIN_UP_HOLD: usize = 104;
 
 /// A row; codes 27 and 28 carry the same fields.
 pub const ROW: [Field; 6] = [

@@ -1,4 +1,4 @@
-//! The adapter file (document 01, "Adapter file", and W-204): blocks of 512 bytes, each with its check; block 0 with counts and driver
+//! The adapter file (document 01, "Adapter file", W-204 and W-205): blocks of 512 bytes, each with its check; block 0 with counts and driver
 //! info, a block for each phy, the rows, a block with the controller's configuration and status, and a block for each phy's connector.
 
 mod describe;

@@ -204,6 +204,17 @@ mod tests {
     }
 
     #[test]
+    fn a_spin_up_hold_stands_in_byte_104() {
+        let free = parse("phy\nphy attached=sata\n").unwrap();
+        let held = parse("phy\nphy attached=sata spin-up-hold=1\n").unwrap();
+        let moved: Vec<usize> = (0..free.len())
+            .filter(|at| free[*at] != held[*at])
+            .collect();
+        assert_eq!(moved, [1024 + 29, 1024 + 104, 1024 + 508, 1024 + 509]);
+        assert_eq!((held[1024 + 29], held[1024 + 104]), (3, 1));
+    }
+
+    #[test]
     fn single_bytes_length_and_damage() {
         let whole = parse("phy").unwrap();
         let sealed = parse("phy\nbyte 1 200 9").unwrap();
@@ -224,6 +235,10 @@ mod tests {
         );
         assert_eq!(fault("phy\nrow lun=00"), "line 2: lun: 1 bytes, not 8");
         assert_eq!(fault("phy port=300"), "line 1: port: 300 is over 255");
+        assert_eq!(
+            fault("phy spin-up-hold=256"),
+            "line 1: spin-up-hold: 256 is over 255"
+        );
         assert_eq!(fault("phy\n\n  prt=3"), "line 3: phy has no field 'prt'");
         assert_eq!(fault("length 1\nlength 2"), "line 2: a second length line");
         assert_eq!(

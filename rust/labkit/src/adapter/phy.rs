@@ -81,8 +81,16 @@ fn named(name: &str) -> Field {
         .expect("a field of the table")
 }
 
-/// The negotiated rate that document 01's link rule gives, for a description that names none.
+/// The negotiated rate for a description that names none: what the link rule gives, of a phy held at spin-up 3 in place of a rate (W-205).
 fn link_rule(block: &[u8]) -> u8 {
+    match rates_rule(block) {
+        8 | 9 if block[SPIN_UP_HOLD] == 1 => names::SATA_SPINUP_HOLD,
+        result => result,
+    }
+}
+
+/// Document 01's link rule, which goes by device and rates alone.
+fn rates_rule(block: &[u8]) -> u8 {
     if block[ATTACHED_TYPE] == 0 {
         return 0;
     }
@@ -189,8 +197,34 @@ mod tests {
             "phy attached=sata signature=00*20",
             "phy attached=sas attached-target=0Ah",
             "phy signature=ata held=0",
+            "phy attached=sata spin-up-hold=1",
+            "phy attached=sata signature=ata negotiated=1 fixed=1 spin-up-hold=1",
+            "phy attached=sata negotiated=9 spin-up-hold=1",
+            "phy attached=sata programmed-minimum=9 highest=8 spin-up-hold=1",
+            "phy attached=sas spin-up-hold=255",
+            "phy spin-up-hold=1",
         ] {
             assert_eq!(to_words(&block(text), 2).join(" "), text);
+        }
+    }
+
+    /// Whatever the byte is, on every kind of phy, negotiated as it may be.
+    #[test]
+    fn every_spin_up_hold_and_back() {
+        for kind in [
+            "attached=none",
+            "attached=sata",
+            "attached=sata programmed-maximum=8 lowest=9",
+            "attached=sas",
+            "attached=edge",
+            "attached=fanout",
+            "attached-type=40h",
+        ] {
+            for (hold, rate) in (0..=255).flat_map(|hold| [0, 1, 2, 3, 8, 9].map(|r| (hold, r))) {
+                let said = block(&format!("phy {kind} negotiated={rate} spin-up-hold={hold}"));
+                assert_eq!((said[SPIN_UP_HOLD], said[NEGOTIATED]), (hold, rate));
+                assert_eq!(block(&to_words(&said, 2).join(" ")), said);
+            }
         }
     }
 
@@ -201,6 +235,21 @@ mod tests {
         assert_eq!(block("phy attached=sas highest=8")[NEGOTIATED], 8);
         let apart = "phy attached=sata programmed-maximum=8 lowest=9";
         assert_eq!(block(apart)[NEGOTIATED], 2);
+    }
+
+    /// 3 in place of 8 or 9, and nothing else.
+    #[test]
+    fn the_negotiated_rate_of_a_held_phy() {
+        let rate = |text: &str| block(&format!("phy {text}"))[NEGOTIATED];
+        assert_eq!(rate("attached=sata spin-up-hold=1"), 3);
+        assert_eq!(rate("attached=sata spin-up-hold=1 highest=8"), 3);
+        assert_eq!(rate("attached=sata spin-up-hold=1 fixed=1"), 3);
+        let apart = "programmed-maximum=8 lowest=9";
+        assert_eq!(rate(&format!("attached=sata spin-up-hold=1 {apart}")), 2);
+        assert_eq!(rate("attached=sata spin-up-hold=1 negotiated=1"), 1);
+        assert_eq!(rate("attached=sata spin-up-hold=0"), 9);
+        assert_eq!(rate("attached=sata held=1"), 9);
+        assert_eq!(rate("spin-up-hold=1"), 0);
     }
 
     #[test]
@@ -225,6 +274,10 @@ mod tests {
         assert_eq!(
             entity_words(&block(text)),
             "port 2, negotiated 9 (3.0 Gb/s), programmed 8 (1.5 Gb/s) to 9 (3.0 Gb/s), end device 5000C50000000001"
+        );
+        assert_eq!(
+            entity_words(&block(&format!("{text} spin-up-hold=1"))),
+            "port 2, negotiated 3 (spin-up hold), programmed 8 (1.5 Gb/s) to 9 (3.0 Gb/s), end device 5000C50000000001"
         );
     }
 }

@@ -1,5 +1,5 @@
 //! What document 01 leaves free and real consoles read all the same: a file that an opening accepts and that makes them behave
-//! oddly. And a pinout, which an opening refuses by its bits. One line for each.
+//! oddly. And what an opening refuses: a pinout by its bits, a spin-up hold of what is no SATA disk. One line for each.
 
 use super::fields::*;
 use super::{connector_at, controller_at, BLOCK, CONNECTOR_BYTES, MOST_PHYS};
@@ -64,11 +64,12 @@ fn pinout(connector: &[u8]) -> Option<String> {
     })
 }
 
-fn about(block: &[u8], asked_ata: bool) -> [Option<String>; 3] {
+fn about(block: &[u8], asked_ata: bool) -> [Option<String>; 4] {
     [
         identify_type(block),
         attached_identifier(block),
         no_sata_bit(block, asked_ata),
+        spin_up_hold(block),
     ]
 }
 
@@ -95,6 +96,21 @@ fn no_sata_bit(block: &[u8], asked_ata: bool) -> Option<String> {
     (like_a_disk && protocols & SATA == 0).then(|| {
         format!("what is attached looks like a disk, but its target protocols {protocols:02X}h have no SATA bit (01h): it is served as none")
     })
+}
+
+/// A spin-up hold that is neither 0 nor 1, or one of a phy that is no SATA phy.
+fn spin_up_hold(block: &[u8]) -> Option<String> {
+    let is_sata = block[ATTACHED_TYPE] == END_DEVICE && block[ATTACHED_TARGET] & SATA != 0;
+    let hold = block[SPIN_UP_HOLD];
+    let reason = match hold {
+        0 => return None,
+        1 if is_sata => return None,
+        1 => "and no SATA disk is attached",
+        _ => "neither 0 nor 1",
+    };
+    Some(format!(
+        "the spin-up hold is {hold}, {reason}: the opening refuses it with 104"
+    ))
 }
 
 #[cfg(test)]
@@ -139,6 +155,33 @@ mod tests {
             ["phy 0: pinout 80000002h has bits that no pinout has (80000000h, outside 000F0F03h): the opening refuses it with 104"]
         );
         assert_eq!(warned("phy pinout=000F0F03h\nphy pinout=0"), [""; 0]);
+    }
+
+    /// Every value on every kind of phy.
+    #[test]
+    fn spin_up_holds_that_an_opening_refuses() {
+        for kind in ["none", "sata", "sas", "edge", "fanout"] {
+            for hold in 0..=255 {
+                let found = warned(&format!("phy\nphy attached={kind} spin-up-hold={hold}"));
+                let sound = hold == 0 || hold == 1 && kind == "sata";
+                assert_eq!(found.len(), usize::from(!sound), "{kind} {hold}");
+            }
+        }
+        assert_eq!(
+            warned("phy attached=sas spin-up-hold=1\nphy attached=sata spin-up-hold=2"),
+            [
+                "phy 0: the spin-up hold is 1, and no SATA disk is attached: the opening refuses it with 104",
+                "phy 1: the spin-up hold is 2, neither 0 nor 1: the opening refuses it with 104"
+            ]
+        );
+        // an expander with the SATA bit is no SATA phy; other bits beside it do no harm
+        let bit = "phy attached=edge attached-target=01h spin-up-hold=1";
+        assert_eq!(warned(bit).len(), 1);
+        let bits = "phy attached=sata attached-target=09h spin-up-hold=1";
+        assert_eq!(warned(bits), [""; 0]);
+        let unlinked =
+            "phy attached=sata spin-up-hold=1 negotiated=1\nphy attached=sata spin-up-hold=1 fixed=1";
+        assert_eq!(warned(unlinked), [""; 0]);
     }
 
     #[test]

@@ -46,6 +46,12 @@ fn the_phys_of_a_code_20() {
         lines(&low, &high),
         ["phy 1 negotiated: 0 (unknown) | 9 (3.0 Gb/s)"]
     );
+    let mut held = low.clone();
+    held[28 + 4 + 64 + 29] = 3;
+    assert_eq!(
+        lines(&held, &high),
+        ["phy 1 negotiated: 3 (spin-up hold) | 9 (3.0 Gb/s)"]
+    );
 }
 
 #[test]

@@ -61,6 +61,10 @@ fn phys_in_words() {
             .count(),
         2
     );
+    let mut held = request("get-phy-info phys=1");
+    held[28 + 4 + 29] = 3;
+    let text = reply(&sent, &held).unwrap();
+    assert!(text.contains("* phy 0              port 0, negotiated 3 (spin-up hold), "));
 }
 
 #[test]
