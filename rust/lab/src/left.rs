@@ -185,6 +185,30 @@ mod tests {
         assert_eq!(found[1].difference.values, ["0 (unknown)", "9 (3.0 Gb/s)"]);
     }
 
+    /// The byte of a spin-up hold, on any phy, and the rate that goes with it.
+    #[test]
+    fn spin_up_holds() {
+        for n in [0, 1, 31] {
+            let mut held = vec![0; STATE_SIZE];
+            (held[phy_at(n) + 29], held[phy_at(n) + 104]) = (3, 1);
+            let mut released = held.clone();
+            (released[phy_at(n) + 29], released[phy_at(n) + 104]) = (9, 0);
+            let found = left(&[&held, &released], &[]);
+            assert_eq!(groups(&found), [Group::Tables; 2]);
+            let shown = |i: usize| {
+                let Difference { what, values } = &found[i].difference;
+                format!("{what}: {}", values.join(" | "))
+            };
+            assert_eq!(
+                [shown(0), shown(1)],
+                [
+                    format!("phy {n} negotiated: 3 (spin-up hold) | 9 (3.0 Gb/s)"),
+                    format!("phy {n} spin-up-hold: 1 | 0"),
+                ]
+            );
+        }
+    }
+
     #[test]
     fn controller_and_connectors() {
         let state = vec![0; STATE_SIZE];

@@ -6,7 +6,7 @@ pub const ROW_COUNT: usize = 2;
 pub const DRIVER: usize = 3;
 pub const DRIVER_SIZE: usize = 174;
 pub const PHYS: usize = 32;
-pub const PHY_SIZE: usize = 104;
+pub const PHY_SIZE: usize = 105;
 pub const ROWS: usize = 64;
 pub const ROW_SIZE: usize = 20;
 /// Behind the rows the controller's configuration, its status, and a connector for each phy.
@@ -40,7 +40,7 @@ mod tests {
 
     #[test]
     fn the_parts_fill_a_state() {
-        assert_eq!((phy_at(0), row_at(0)), (177, 3505));
+        assert_eq!((phy_at(0), phy_at(1), row_at(0)), (177, 282, 3537));
         assert_eq!(row_at(ROWS), CONTROLLER);
         assert_eq!(CONTROLLER + CONTROLLER_SIZE, STATUS);
         assert_eq!(STATUS + STATUS_SIZE, connector_at(0));

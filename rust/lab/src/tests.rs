@@ -2,6 +2,7 @@
 //! cut sessions and every pair of levels among them, with the first header alone and with both. And every form of report on each.
 
 mod linux;
+mod spin_up;
 
 use crate::exercise::{Exercise, Text};
 use crate::files::Part;
