@@ -5,7 +5,7 @@ first header alone. console.c does the same in C. LIBRARY is the archive as a sh
 import ctypes
 import sys
 
-STATE_SIZE = 6149
+STATE_SIZE = 6181
 LEVEL, PHY_COUNT = 0, 1
 FIRST, FIRST_CODE = 28, 20  # sizes of the two headers, and where the return code is in each
 LINUX, LINUX_CODE = 20, 8
@@ -24,7 +24,7 @@ CODES = {
     3: "invalid parameter",
     4: "denied at this level",
 }
-RATES = {1: "disabled", 2: "failed", 8: "1.5 Gb/s", 9: "3.0 Gb/s"}
+RATES = {1: "disabled", 2: "failed", 3: "spin-up hold", 8: "1.5 Gb/s", 9: "3.0 Gb/s"}
 STATUSES = {1: "good", 2: "failed", 3: "offline", 4: "powered off"}
 LOCATIONS = {2: "internal", 4: "external", 8: "switchable", 0x10: "auto"}
 
@@ -48,7 +48,7 @@ def text_at(data, at, most):
 
 def phy_at(n):
     """Where phy n stands in the state; its PHY_ENTITY is first."""
-    return 177 + 104 * n
+    return 177 + 105 * n
 
 
 def device(attached):

@@ -5,7 +5,7 @@ LIBRARY is the archive as a shared object, which `build` makes."""
 import ctypes
 import sys
 
-STATE_SIZE = 6149
+STATE_SIZE = 6181
 LEVEL, PHY_COUNT, ROW_COUNT = 0, 1, 2
 HEADER, CODE, SECTOR, DISK = 28, 20, 512, 8192
 
@@ -28,7 +28,7 @@ CODES = {
     2002: "phy does not exist",
     2008: "connection failed",
 }
-RATES = {1: "disabled", 2: "failed", 8: "1.5 Gb/s", 9: "3.0 Gb/s"}
+RATES = {1: "disabled", 2: "failed", 3: "spin-up hold", 8: "1.5 Gb/s", 9: "3.0 Gb/s"}
 STATUSES = {1: "good", 2: "failed", 3: "offline", 4: "powered off"}
 LOCATIONS = {2: "internal", 4: "external", 8: "switchable", 0x10: "auto"}
 
@@ -48,7 +48,7 @@ def text_at(data, at, most):
 
 def phy_at(n):
     """Where phy n stands in the state; its PHY_ENTITY is first."""
-    return 177 + 104 * n
+    return 177 + 105 * n
 
 
 def device(attached):
