@@ -107,7 +107,7 @@ dir=$(exercise protocols) && sed -i 's/attached=sas/attached=sata attached-targe
 try "no SATA bit" marks 0 "warning phy 2: what is attached looks like a disk, but its target protocols 04h have no SATA bit" "$dir"
 dir=$(exercise asked) && echo "stp-passthru phy=2 destination=5000C50000000003 command=ECh data=00*512" >>"$dir/session.txt"
 try "a SAS device that is asked like a disk" marks 0 "warning phy 2: what is attached looks like a disk" "$dir"
-try "no warnings about the samples" eval '! grep -q warning "$here"/lab/{good,writes,refusals,levels}.out'
+try "no warnings about the samples" eval '! grep -q warning "$here"/lab/{good,writes,refusals,spin-up,levels}.out'
 kit_warns() {
     "$kit" adapter "$1" "$work/made" 2>"$work/errors" && grep -qF "labkit: warning: $1: phy 0: its own identify device type is 0" "$work/errors"
 }
