@@ -29,7 +29,7 @@ extern "C" {
 
 /* The state. Every byte is named here, and every byte string of this size stands for a state, one that keeps the rules of document 01 or
    one that ascheknopf_request refuses with 107. It holds no pointers: it may be copied, stored and compared. */
-#define ASCHEKNOPF_STATE_SIZE 6149
+#define ASCHEKNOPF_STATE_SIZE 6181
 
 #define ASCHEKNOPF_LEVEL 0       /* 0 None, 1 Restricted, 2 Limited, 3 Full; any other value is refused */
 #define ASCHEKNOPF_PHY_COUNT 1   /* p, 1 to 32 */
@@ -38,20 +38,22 @@ extern "C" {
 #define ASCHEKNOPF_DRIVER_INFO_SIZE 174
 
 /* Phy n, for n from 0 to 31; those from p on are 0. The offsets below are in its bytes. */
-#define ASCHEKNOPF_PHY(n) (177 + 104 * (size_t)(n))
-#define ASCHEKNOPF_PHY_SIZE 104
+#define ASCHEKNOPF_PHY(n) (177 + 105 * (size_t)(n))
+#define ASCHEKNOPF_PHY_SIZE 105
 #define ASCHEKNOPF_PHY_ENTITY 0 /* a PHY_ENTITY (6.7.4.2) */
 #define ASCHEKNOPF_PHY_ENTITY_SIZE 64
 #define ASCHEKNOPF_PHY_COUNTERS 64  /* four of 32 bits: invalid dword, running disparity, loss of dword sync, phy reset problem (6.9) */
 #define ASCHEKNOPF_PHY_SIGNATURE 80 /* its signature FIS */
 #define ASCHEKNOPF_PHY_SIGNATURE_SIZE 20
-#define ASCHEKNOPF_PHY_HELD 100    /* 1 if the signature is held, else 0 */
-#define ASCHEKNOPF_PHY_FIXED 101   /* 1 if set phy info may not change it, else 0 */
-#define ASCHEKNOPF_PHY_LOWEST 102  /* the device's lowest rate: 8 is 1.5 Gb/s, 9 is 3.0 Gb/s; 0 with no device */
-#define ASCHEKNOPF_PHY_HIGHEST 103 /* its highest */
+#define ASCHEKNOPF_PHY_HELD 100        /* 1 if the signature is held, else 0 */
+#define ASCHEKNOPF_PHY_FIXED 101       /* 1 if set phy info may not change it, else 0 */
+#define ASCHEKNOPF_PHY_LOWEST 102      /* the device's lowest rate: 8 is 1.5 Gb/s, 9 is 3.0 Gb/s; 0 with no device */
+#define ASCHEKNOPF_PHY_HIGHEST 103     /* its highest */
+#define ASCHEKNOPF_PHY_SPINUP_HOLD 104 /* 1 if a SATA disk is held at spin-up, else 0; its negotiated rate is 3 where it would be 8 or 9,
+                                          until a granted set phy info makes this 0 */
 
 /* Row i, for i from 0 to 63; those from a on are 0. The offsets below are in its bytes. */
-#define ASCHEKNOPF_ROW(i) (3505 + 20 * (size_t)(i))
+#define ASCHEKNOPF_ROW(i) (3537 + 20 * (size_t)(i))
 #define ASCHEKNOPF_ROW_SIZE 20
 #define ASCHEKNOPF_ROW_SAS_ADDRESS 0 /* 8 bytes */
 #define ASCHEKNOPF_ROW_SAS_LUN 8     /* 8 bytes */
@@ -63,7 +65,7 @@ extern "C" {
 /* The controller's Configuration of code 2 (6.2.4.3). It is packed; a structure compiled under pack(8) has other places from the firmware
    revisions on, and 180 bytes. The offsets below are in its bytes, and so in the body of a reply; revisions are four numbers of 16 bits:
    major, minor, build, release. */
-#define ASCHEKNOPF_CONTROLLER 4785
+#define ASCHEKNOPF_CONTROLLER 4817
 #define ASCHEKNOPF_CONTROLLER_SIZE 176
 #define ASCHEKNOPF_CONTROLLER_BASE_IO 0          /* 4 bytes */
 #define ASCHEKNOPF_CONTROLLER_BASE_MEMORY 4      /* 4 bytes the low half, 4 the high */
@@ -81,14 +83,14 @@ extern "C" {
 #define ASCHEKNOPF_CONTROLLER_RESERVED 169       /* 7 bytes */
 
 /* Its Status of code 3 (6.3.4.1); the last 28 bytes are reserved. */
-#define ASCHEKNOPF_STATUS 4961
+#define ASCHEKNOPF_STATUS 4993
 #define ASCHEKNOPF_STATUS_SIZE 36
 #define ASCHEKNOPF_STATUS_STATUS 0         /* 4 bytes */
 #define ASCHEKNOPF_STATUS_OFFLINE_REASON 4 /* 4 bytes */
 
 /* The connector of phy n, a Reference of code 30 (6.18.4.1), for n from 0 to 31; those from p on are 0. The offsets below are in its bytes;
    the last 15 are reserved. */
-#define ASCHEKNOPF_CONNECTOR(n) (4997 + 36 * (size_t)(n))
+#define ASCHEKNOPF_CONNECTOR(n) (5029 + 36 * (size_t)(n))
 #define ASCHEKNOPF_CONNECTOR_SIZE 36
 #define ASCHEKNOPF_CONNECTOR_PINOUT 0 /* 4 bytes; a bit outside section 10's constants, 000F0F03h, is refused */
 #define ASCHEKNOPF_CONNECTOR_NAME 4   /* bConnector, 16 bytes */

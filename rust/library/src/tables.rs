@@ -2,7 +2,7 @@
 //! its name of `include/ascheknopf.h`, without `ASCHEKNOPF_`.
 
 /// The controller's configuration, which code 2 shows. It is packed. Revisions are four numbers of 16 bits: major, minor, build, release.
-pub const CONTROLLER: usize = 4785;
+pub const CONTROLLER: usize = 4817;
 pub const CONTROLLER_SIZE: usize = 176;
 /// Base I/O address, 4 bytes; base memory address, 4 bytes the low half and 4 the high; subsystem id, 4 bytes.
 pub const CONTROLLER_BASE_IO: usize = 0;
@@ -24,14 +24,14 @@ pub const CONTROLLER_RROM_BIOS: usize = 161;
 pub const CONTROLLER_RESERVED: usize = 169;
 
 /// The controller's status, which code 3 shows; the last 28 bytes are reserved.
-pub const STATUS: usize = 4961;
+pub const STATUS: usize = 4993;
 pub const STATUS_SIZE: usize = 36;
 /// Status and offline reason, 4 bytes each.
 pub const STATUS_STATUS: usize = 0;
 pub const STATUS_OFFLINE_REASON: usize = 4;
 
 /// The connector of phy 0, which code 30 shows; those of the other 31 phys follow. The last 15 bytes of each are reserved.
-pub const CONNECTOR: usize = 4997;
+pub const CONNECTOR: usize = 5029;
 pub const CONNECTOR_SIZE: usize = 36;
 /// Pinout, 4 bytes; name, 16 bytes; location, a byte.
 pub const CONNECTOR_PINOUT: usize = 0;
