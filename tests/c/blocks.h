@@ -45,4 +45,13 @@ static inline int state_is_the_files(uint8_t level)
         && table_is(ASCHEKNOPF_CONNECTOR(0), ASCHEKNOPF_CONNECTOR_SIZE, 32, lent.file + CONNECTOR_BLOCK * BLOCK, BLOCK, PHYS);
 }
 
+/* The opening at Full has this number: accepted, the state is what the file holds; refused, it is zero. Nothing else is touched. */
+static inline int opens_with(uint32_t number)
+{
+    uint32_t given = opened(FULL);
+    int right = given == number && (number == 0 ? state_is_the_files(3) : all(lent.state, ASCHEKNOPF_STATE_SIZE, 0));
+    memcpy(lent.state, before.state, ASCHEKNOPF_STATE_SIZE);
+    return right && untouched();
+}
+
 #endif

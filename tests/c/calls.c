@@ -65,7 +65,7 @@ static void openings(void)
     check("the driver's name", memcmp(lent.state + ASCHEKNOPF_DRIVER_INFO, "csmilab", 8) == 0);
     check("phy 0", word(phy + ASCHEKNOPF_PHY_COUNTERS) == 3 && word(phy + ASCHEKNOPF_PHY_COUNTERS + 8) == 1
                    && phy[ASCHEKNOPF_PHY_HELD] == 1 && phy[ASCHEKNOPF_PHY_FIXED] == 0
-                   && phy[ASCHEKNOPF_PHY_LOWEST] == 8 && phy[ASCHEKNOPF_PHY_HIGHEST] == 9);
+                   && phy[ASCHEKNOPF_PHY_LOWEST] == 8 && phy[ASCHEKNOPF_PHY_HIGHEST] == 9 && phy[ASCHEKNOPF_PHY_SPINUP_HOLD] == 0);
     check("row 2", row[ASCHEKNOPF_ROW_SAS_ADDRESS] == 0x50 && row[ASCHEKNOPF_ROW_SAS_ADDRESS + 7] == 3
                    && row[ASCHEKNOPF_ROW_HOST] == 0 && row[ASCHEKNOPF_ROW_TARGET] == 3);
 }

@@ -10,15 +10,6 @@ enum { PINOUTS = 0x000F0F03 };
 /* The adapter as it is before it is opened. */
 static struct lent whole;
 
-/* The opening has this number: accepted, the state is what the file holds; refused, it is zero. Nothing else is touched. */
-static int opens_with(uint32_t number)
-{
-    uint32_t given = opened(FULL);
-    int right = given == number && (number == 0 ? state_is_the_files(3) : all(lent.state, ASCHEKNOPF_STATE_SIZE, 0));
-    memcpy(lent.state, before.state, ASCHEKNOPF_STATE_SIZE);
-    return right && untouched();
-}
-
 /* A byte of the file altered, with the block's check left and then made good. */
 static void byte_gives(const char *what, size_t at, uint8_t change, uint32_t number)
 {
