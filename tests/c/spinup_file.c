@@ -5,7 +5,7 @@
 
 enum { HOLD = ASCHEKNOPF_PHY_SPINUP_HOLD };
 
-/* What is attached; only a SATA phy may be held. */
+/* What is attached; only a SATA phy may have the hold. */
 static const struct device {
     const char *what;
     uint8_t type, protocols;
@@ -22,7 +22,7 @@ static const struct device {
 
 enum { NONE = 0, SATA = 5, ANY = sizeof DEVICES / sizeof DEVICES[0] };
 
-/* A phy's rate bytes, a device's lowest and highest rate, and what the link rule gives with a device that is not held. */
+/* A phy's rate bytes, a device's lowest and highest rate, and what the link rule gives with a device and no hold. */
 static const struct rates {
     uint8_t minimum, maximum, lowest, highest, rule;
 } RATES[] = {
@@ -95,7 +95,7 @@ static void devices(size_t n)
                 phy_is(n, &DEVICES[d], &RATES[r], holds[i / 7], rates[i % 7]);
 }
 
-/* Every negotiated rate of a SATA phy, held and not, and every value of the byte. */
+/* Every negotiated rate of a SATA phy, with a hold and without, and every value of the byte. */
 static void values(size_t n)
 {
     for (int value = 0; value < 256; value++) {
@@ -108,7 +108,7 @@ static void values(size_t n)
     }
 }
 
-/* A held disk with a signature, on a phy that is fixed. */
+/* A disk with a hold and a signature, on a phy that is fixed. */
 static void fixed(size_t n)
 {
     const uint8_t rates[3] = {DISABLED, SPINUP_HOLD, HIGH};
@@ -119,9 +119,9 @@ static void fixed(size_t n)
         in_file(n)[ASCHEKNOPF_PHY_HELD] = in_file(n)[ASCHEKNOPF_PHY_FIXED] = in_file(n)[HOLD] = 1;
         in_file(n)[NEGOTIATED] = rates[i];
         seal();
-        check_at("held and fixed, in a file", rates[i], opens_with(rates[i] == HIGH ? 104 : 0));
+        check_at("fixed, with a hold, in a file", rates[i], opens_with(rates[i] == HIGH ? 104 : 0));
         memcpy(in_state(n), in_file(n), ASCHEKNOPF_PHY_SIZE);
-        check_at("held and fixed, in a state", rates[i], state_answers(rates[i] != HIGH));
+        check_at("fixed, with a hold, in a state", rates[i], state_answers(rates[i] != HIGH));
     }
 }
 
