@@ -2,6 +2,7 @@
 
 mod front_page;
 mod linux;
+mod spinup;
 
 use super::*;
 use model::codes::control;
