@@ -104,7 +104,7 @@ fn connect(random: &mut Random, phy: &mut Phy) {
     (bytes[phy::LOWEST], bytes[phy::HIGHEST]) = (8, 9);
     bytes[phy::NEGOTIATED] = 9;
     random.fill(&mut bytes[phy::SIGNATURE..phy::HELD]);
-    (bytes[phy::HELD], bytes[phy::FIXED]) = (1, 0);
+    (bytes[phy::HELD], bytes[phy::FIXED], bytes[phy::SPINUP_HOLD]) = (1, 0, 0);
 }
 
 /// The request at a place of a session: granted at Full; of the two address codes, only if there are rows.

@@ -223,6 +223,7 @@ fn failed_link_resets_count_up_to_the_end() {
     ) = (device::END, 9, 9);
     (bytes[phy::NEGOTIATED], bytes[phy::HELD], bytes[phy::FIXED]) = (9, 0, 0);
     bytes[phy::SIGNATURE..phy::HELD].fill(0);
+    bytes[phy::SPINUP_HOLD] = 0;
     put_word(bytes, phy::COUNTERS + PROBLEM, u32::MAX - 2);
     let slow = first::of_body(names::code::SET_PHY_INFO, &[0, 0, 0, 8, 0, 0, 0, 0]);
     let errors = first::of_body(names::code::LINK_ERRORS, &[0; link_errors::SIZE]);

@@ -137,13 +137,13 @@ fn a_state_of_another_length_is_107() {
         state::DRIVER_INFO,
         state::PHYS,
         state::ROWS,
-        // the whole state before W-204
         state::CONTROLLER_CONFIG,
         state::CONTROLLER_STATUS,
         state::CONNECTORS,
     ];
     let near = [state::SIZE - 1, state::SIZE + 1, state::SIZE + 2];
-    let others = [0, 1, 8192, 2 * state::SIZE];
+    // the whole state before W-204, and before W-205
+    let others = [0, 1, 4785, 6149, 8192, 2 * state::SIZE];
     for length in [&ends[..], &near, &others].concat() {
         let mut state = sound.clone();
         state.resize(length, 0);
@@ -156,7 +156,7 @@ fn a_state_of_another_length_is_107() {
 
 /// Zeros behind a sound state, or before it, do not make one of another length sound.
 #[test]
-fn only_6149_bytes_are_a_state() {
+fn only_6181_bytes_are_a_state() {
     let adapter = Adapter::of_counts(&mut Random::new(5), 1, 0);
     let medium = vec![0; adapter.medium_length()];
     for length in (0..200).chain(4700..4900).chain(6050..6250) {
@@ -272,7 +272,7 @@ fn states_of_any_kind_are_answered_alike() {
     );
 }
 
-/// All 6,149 places, some other values each.
+/// All 6,181 places, some other values each.
 fn altered(seed: u64, p: usize, a: usize) {
     let done = alter::run(seed, p, a, alter::Values::Some);
     assert_eq!(done.differences.len(), 0, "{:?}", done.differences.first());

@@ -51,6 +51,7 @@ impl Phy {
         phy.choose_counters(random);
         let device = random.pick(&DEVICES);
         phy.attach(random, device);
+        phy.bytes[SPINUP_HOLD] = u8::from(device == Device::Sata && random.one_in(4));
         phy.bytes[NEGOTIATED] = if random.one_in(8) {
             rate::DISABLED
         } else {
@@ -142,17 +143,24 @@ impl Phy {
         self.negotiated() >= 8
     }
 
-    /// The link rule: the highest rate inside both the programmed and the device range.
+    pub fn has_spinup_hold(&self) -> bool {
+        self.bytes[SPINUP_HOLD] == 1
+    }
+
+    /// The link rule of the phy; at a spin-up hold 3 in place of a rate.
     pub fn link(&self) -> u8 {
-        if !self.has_device() {
-            return 0;
+        match self.rate() {
+            Some(_) if self.has_spinup_hold() => rate::SATA_SPINUP_HOLD,
+            Some(rate) => rate,
+            None if self.has_device() => rate::FAILED,
+            None => rate::UNKNOWN,
         }
+    }
+
+    /// The highest rate inside both the programmed and the device range.
+    pub fn rate(&self) -> Option<u8> {
         let lowest = self.bytes[LOWEST].max(self.bytes[MINIMUM] >> 4);
         let highest = self.bytes[HIGHEST].min(self.bytes[MAXIMUM] >> 4);
-        if lowest <= highest {
-            highest
-        } else {
-            rate::FAILED
-        }
+        (self.has_device() && lowest <= highest).then_some(highest)
     }
 }

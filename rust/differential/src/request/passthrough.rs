@@ -20,7 +20,7 @@ pub struct Passthrough {
 }
 
 impl Passthrough {
-    /// A passthrough to a phy that is connected, if the adapter has one.
+    /// Mostly a passthrough to a phy that is connected, if the adapter has one.
     pub fn sound(random: &mut Random, adapter: &Adapter) -> Self {
         let fis = fis::any(random);
         Self::of_fis(random, adapter, fis)
@@ -64,7 +64,7 @@ impl Passthrough {
 
 /// A selection by phy, by port or by both, and the phy that it selects.
 fn select<'a>(random: &mut Random, adapter: &'a Adapter) -> (u8, u8, &'a Phy) {
-    let n = connected(random, adapter);
+    let n = disk(random, adapter);
     let phy = &adapter.phys[n];
     match random.below(4) {
         0 => (NOT_GIVEN, phy.port(), lowest_of_port(adapter, phy.port())),
@@ -73,16 +73,19 @@ fn select<'a>(random: &mut Random, adapter: &'a Adapter) -> (u8, u8, &'a Phy) {
     }
 }
 
-/// Mostly a SATA phy whose link is up.
-fn connected(random: &mut Random, adapter: &Adapter) -> usize {
+/// Mostly a SATA phy whose link is up; at times one with a spin-up hold, which a request before may have released.
+fn disk(random: &mut Random, adapter: &Adapter) -> usize {
+    let asked: fn(&Phy) -> bool = match random.below(12) {
+        0 => |_| true,
+        1 | 2 => Phy::has_spinup_hold,
+        _ => |phy| phy.is_sata() && phy.is_up(),
+    };
     let all = 0..adapter.phys.len();
-    let up: Vec<usize> = all
-        .filter(|&n| adapter.phys[n].is_sata() && adapter.phys[n].is_up())
-        .collect();
-    if up.is_empty() || random.one_in(12) {
+    let found: Vec<usize> = all.filter(|&n| asked(&adapter.phys[n])).collect();
+    if found.is_empty() {
         random.below(adapter.phys.len())
     } else {
-        random.pick(&up)
+        random.pick(&found)
     }
 }
 

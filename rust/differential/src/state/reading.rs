@@ -44,6 +44,11 @@ pub fn requests(random: &mut Random, state: &[u8], at: usize) -> Vec<Request> {
             0..ENTITY => vec![phy_info(), check_power(random, phy_of(state, n), n)],
             phy::COUNTERS..phy::SIGNATURE => vec![link_errors(n)],
             phy::SIGNATURE..phy::FIXED => vec![sata_signature(n)],
+            phy::SPINUP_HOLD => vec![
+                set_phy_info(random, n),
+                disabling(n),
+                check_power(random, phy_of(state, n), n),
+            ],
             _ => vec![set_phy_info(random, n)],
         },
         Place::Row(i) => vec![
@@ -95,7 +100,12 @@ fn sata_signature(n: usize) -> Request {
     request(code::SATA_SIGNATURE, &[n as u8])
 }
 
-/// A link reset with other rates: it goes by fixed and by the device's rates.
+/// Clears a spin-up hold without a link reset.
+fn disabling(n: usize) -> Request {
+    request(code::SET_PHY_INFO, &[n as u8, 1])
+}
+
+/// A link reset with other rates: it goes by fixed, by the device's rates and by the spin-up hold.
 fn set_phy_info(random: &mut Random, n: usize) -> Request {
     let (minimum, maximum) = random.pick(&[(8, 8), (9, 9), (8, 9), (0, 0)]);
     request(code::SET_PHY_INFO, &[n as u8, 0, minimum, maximum, 1])

@@ -64,12 +64,17 @@ pub fn check_of_other_number(random: &mut Random, held: &mut Held) -> Option<()>
     Some(())
 }
 
-/// Where some phy starts that is as asked.
-pub fn place(random: &mut Random, held: &Held, asked: fn(&Phy) -> bool) -> Option<usize> {
+/// Some phy that is as asked.
+pub fn some_phy(random: &mut Random, held: &Held, asked: fn(&Phy) -> bool) -> Option<usize> {
     let found: Vec<usize> = (0..held.p())
         .filter(|&n| asked(&held.adapter.phys[n]))
         .collect();
-    (!found.is_empty()).then(|| held.phy(random.pick(&found)))
+    (!found.is_empty()).then(|| random.pick(&found))
+}
+
+/// Where some phy starts that is as asked.
+pub fn place(random: &mut Random, held: &Held, asked: fn(&Phy) -> bool) -> Option<usize> {
+    some_phy(random, held, asked).map(|n| held.phy(n))
 }
 
 pub fn holds(phy: &Phy) -> bool {
@@ -135,6 +140,15 @@ pub fn device_rates(random: &mut Random, held: &mut Held, choices: &[(u8, u8)]) 
     bytes[NEGOTIATED] = rate::DISABLED;
     (bytes[LOWEST], bytes[HIGHEST]) = random.pick(choices);
     Some(())
+}
+
+/// A spin-up hold of phy n, with the rate 3 that goes with it, so that the link rule is not what is broken.
+pub fn spinup_hold(held: &mut Held, n: usize, byte: u8) -> Option<()> {
+    let at = held.phy(n);
+    if held.adapter.phys[n].is_up() {
+        held.bytes[at + NEGOTIATED] = rate::SATA_SPINUP_HOLD;
+    }
+    set(held, at + SPINUP_HOLD, byte)
 }
 
 /// A negotiated rate that is neither 1 nor what the link rule gives.

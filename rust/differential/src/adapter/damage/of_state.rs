@@ -59,7 +59,10 @@ pub const STATE: &[Damage] = &[
         past_phys(r, held, LOWEST, HIGHEST)
     }),
     of_state("highest rate past p", |r, held| {
-        past_phys(r, held, HIGHEST, SIZE)
+        past_phys(r, held, HIGHEST, SPINUP_HOLD)
+    }),
+    of_state("spin-up hold past p", |r, held| {
+        past_phys(r, held, SPINUP_HOLD, SIZE)
     }),
     of_state("SAS address past a", |r, held| {
         past_rows(r, held, 0, row::SAS_LUN)

@@ -4,7 +4,7 @@ use super::breaks::*;
 use super::one::{field, shared, Damage};
 use crate::adapter::phy::Phy;
 use crate::names::phy::*;
-use crate::names::{row, ENTITY, MAX_PHYS, MAX_ROWS};
+use crate::names::{rate, row, ENTITY, MAX_PHYS, MAX_ROWS};
 
 fn no_device(phy: &Phy) -> bool {
     !phy.has_device()
@@ -12,6 +12,11 @@ fn no_device(phy: &Phy) -> bool {
 
 fn other_device(phy: &Phy) -> bool {
     phy.has_device() && !phy.is_sata()
+}
+
+/// Held at spin-up, and neither disabled nor failed.
+fn at_spinup_hold(phy: &Phy) -> bool {
+    phy.negotiated() == rate::SATA_SPINUP_HOLD
 }
 
 pub const RULES: &[Damage] = &[
@@ -50,7 +55,9 @@ pub const RULES: &[Damage] = &[
         rates(r, held, |_, _, _| (0x99, 0x88))
     }),
     field("attached device type", |r, held| {
-        let at = place(r, held, |phy| phy.has_device() && !holds(phy))?;
+        let at = place(r, held, |phy| {
+            phy.has_device() && !holds(phy) && !phy.has_spinup_hold()
+        })?;
         set(held, at + ATTACHED, bad_type(r))
     }),
     field("attached bytes of no device", |r, held| {
@@ -109,6 +116,36 @@ pub const RULES: &[Damage] = &[
     field("signature bytes not held", |r, held| {
         let at = place(r, held, |phy| phy.is_sata() && !holds(phy))?;
         spoil(r, held, at + SIGNATURE, at + HELD)
+    }),
+    field("spin-up hold of no device", |r, held| {
+        let at = place(r, held, no_device)?;
+        set(held, at + SPINUP_HOLD, r.pick(&[1, 2, 255]))
+    }),
+    field("spin-up hold without SATA", |r, held| {
+        let n = some_phy(r, held, other_device)?;
+        spinup_hold(held, n, 1)
+    }),
+    field("spin-up hold over 1", |r, held| {
+        let n = some_phy(r, held, Phy::is_sata)?;
+        let other = r.within(2, 255) as u8;
+        spinup_hold(held, n, r.pick(&[2, 3, 255, other]))
+    }),
+    field("spin-up hold over 1, and a rate", |r, held| {
+        let at = place(r, held, |phy| phy.is_sata() && phy.is_up())?;
+        set(held, at + SPINUP_HOLD, r.within(2, 255) as u8)
+    }),
+    field("a rate beside a spin-up hold", |r, held| {
+        let n = some_phy(r, held, at_spinup_hold)?;
+        set(held, held.phy(n) + NEGOTIATED, held.adapter.phys[n].rate()?)
+    }),
+    field("rate 3 without a spin-up hold", |r, held| {
+        let at = place(r, held, at_spinup_hold)?;
+        set(held, at + SPINUP_HOLD, 0)
+    }),
+    field("rate 3 where the link rule fails", |r, held| {
+        let at = place(r, held, |phy| phy.is_sata() && phy.rate().is_none())?;
+        held.bytes[at + SPINUP_HOLD] = 1;
+        set(held, at + NEGOTIATED, rate::SATA_SPINUP_HOLD)
     }),
     field("negotiated rate", negotiated),
     field("pinout", pinout),
