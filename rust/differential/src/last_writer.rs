@@ -60,7 +60,7 @@ impl Written {
 }
 
 /// The phy that a passthrough selects: its phy, or the lowest of its port.
-fn selected(file: &[u8], body: &[u8]) -> usize {
+pub fn selected(file: &[u8], body: &[u8]) -> usize {
     if body[stp::PHY] != NOT_GIVEN {
         return usize::from(body[stp::PHY]);
     }

@@ -18,6 +18,7 @@ pub mod run;
 pub mod sameness;
 pub mod session;
 pub mod side;
+pub mod spinup;
 pub mod state;
 pub mod sweep;
 pub mod text;

@@ -47,7 +47,7 @@ fn sound_case(seed: u64, level: u8, count: usize) -> Case {
 /// Every command at a level, with both headers, within the disk and near an end.
 fn every_command(seed: u64, level: u8) -> Case {
     let random = &mut Random::new(seed);
-    let adapter = Adapter::of_counts(random, 6, 0);
+    let adapter = Adapter::connected(random, 6, 0);
     let mut requests = Vec::new();
     for command in 0..=255 {
         for (lba, count) in [(3, 2), fis::edge(random)] {
@@ -63,7 +63,7 @@ fn every_command(seed: u64, level: u8) -> Case {
 
 /// Over 60,000 requests over thousands of adapters, texts and openings; each number and return code of the documents is met, with each
 /// code that can give it, with the Linux header at each level, of code 22 with each kind of reset byte at each level, of codes 2, 3 and 30
-/// at each level with both headers, and none besides.
+/// at each level with both headers, of disks held at spin-up with both headers, and none besides.
 #[test]
 fn random_runs_agree_and_meet_everything() {
     let mut coverage = Coverage::default();
@@ -74,7 +74,7 @@ fn random_runs_agree_and_meet_everything() {
         }
     }
     for level in text::LEVELS {
-        for seed in 0..2 {
+        for seed in 0..3 {
             let case = every_command(seed, level);
             coverage.count(&case, &agreed(&case));
         }
@@ -174,7 +174,7 @@ fn small_body(random: &mut Random, adapter: &Adapter, control: u32) -> Vec<u8> {
 #[test]
 fn every_value_of_each_body_byte_agrees() {
     let random = &mut Random::new(13);
-    let adapter = Adapter::of_counts(random, 5, 6);
+    let adapter = Adapter::connected(random, 5, 6);
     for control in names::code::ALL {
         let body = small_body(random, &adapter, control);
         for of_body in OF_BODY {
@@ -329,7 +329,7 @@ fn requests_of_any_length_are_handled() {
 #[test]
 fn long_data_buffers_agree() {
     let random = &mut Random::new(25);
-    let adapter = Adapter::of_counts(random, 8, 0);
+    let adapter = Adapter::connected(random, 8, 0);
     let mut requests = Vec::new();
     let fitting = PROGRAM_LONGEST - header::SIZE - stp::DATA;
     for data in [names::DISK, fitting, fitting + 1, 70_000, 300_000] {

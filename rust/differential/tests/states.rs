@@ -270,6 +270,11 @@ fn states_of_any_kind_are_answered_alike() {
         "{:?}",
         made.calls
     );
+    assert!(
+        made.by_hold.iter().all(|&count| count > 50),
+        "{:?}",
+        made.by_hold
+    );
 }
 
 /// All 6,181 places, some other values each.

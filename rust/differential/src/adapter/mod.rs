@@ -7,7 +7,8 @@ pub mod phy;
 pub mod row;
 
 use crate::names::{
-    file, state, CONTROLLER_CONFIG, CONTROLLER_STATUS, DISK, DRIVER_INFO, MAX_PHYS, MAX_ROWS,
+    file, phy_info, state, CONTROLLER_CONFIG, CONTROLLER_STATUS, DISK, DRIVER_INFO, ENTITY,
+    MAX_PHYS, MAX_ROWS,
 };
 use crate::random::Random;
 use connector::Connector;
@@ -52,6 +53,18 @@ impl Adapter {
             controller: random.array(),
             status: random.array(),
             connectors: (0..p).map(|_| connector::sound(random)).collect(),
+        }
+    }
+
+    /// One of which half the phys or more are SATA phys whose links are up.
+    pub fn connected(random: &mut Random, p: usize, a: usize) -> Self {
+        loop {
+            let adapter = Self::of_counts(random, p, a);
+            let phys = adapter.phys.iter();
+            let up = phys.filter(|phy| phy.is_sata() && phy.is_up());
+            if 2 * up.count() >= p {
+                return adapter;
+            }
         }
     }
 
@@ -102,6 +115,17 @@ impl Adapter {
         put(&mut bytes, state::CONTROLLER_STATUS, &self.status);
         for (n, connector) in self.connectors.iter().enumerate() {
             put(&mut bytes, state::connector_at(n), connector);
+        }
+        bytes
+    }
+
+    /// What code 20 shows of it.
+    pub fn phy_info(&self) -> Vec<u8> {
+        let mut bytes = vec![0; phy_info::SIZE];
+        bytes[0] = self.phys.len() as u8;
+        for (n, phy) in self.phys.iter().enumerate() {
+            let at = phy_info::PHYS + ENTITY * n;
+            put(&mut bytes, at, &phy.bytes[..ENTITY]);
         }
         bytes
     }

@@ -117,6 +117,17 @@ impl Phy {
         self.bytes[SIGNATURE..HELD].copy_from_slice(&signature.unwrap_or_default());
     }
 
+    /// Makes it a SATA phy of both rates with a signature, which is held at spin-up and may be changed.
+    pub fn hold_at_spinup(&mut self, random: &mut Random) {
+        random.fill(&mut self.bytes[ATTACHED..ENTITY]);
+        self.attach(random, Device::Sata);
+        self.hold(Some(random.array()));
+        (self.bytes[MINIMUM], self.bytes[MAXIMUM]) = (0x88, 0x99);
+        self.set_device_rates((8, 9));
+        (self.bytes[FIXED], self.bytes[SPINUP_HOLD]) = (0, 1);
+        self.bytes[NEGOTIATED] = rate::SATA_SPINUP_HOLD;
+    }
+
     pub fn port(&self) -> u8 {
         self.bytes[PORT_IDENTIFIER]
     }

@@ -1,11 +1,13 @@
 //! How often each number, return code and command was met, with the first header, and with the Linux header at each level; code 22 by its
-//! reset byte too, and codes 2, 3 and 30 by the level with both; and which of those that the documents know were not.
+//! reset byte too, and codes 2, 3 and 30 by the level with both; what was met of disks held at spin-up; and which of those that the
+//! documents know were not.
 
 pub mod by_level;
 mod front_page;
 pub mod known;
 pub mod link_errors;
 mod met;
+mod spinup;
 
 use crate::case::{Case, Outcome};
 use crate::names::{call, state};
@@ -13,6 +15,7 @@ use crate::request::Header;
 use by_level::ByLevel;
 use known::Kind;
 use met::Met;
+use spinup::Spinup;
 use std::collections::BTreeMap;
 use std::fmt;
 
@@ -23,6 +26,7 @@ pub struct Coverage {
     kinds: BTreeMap<Kind, Met>,
     link_errors: ByLevel<link_errors::Asked>,
     front_page: ByLevel<front_page::Asked>,
+    spinup: Spinup,
 }
 
 impl Coverage {
@@ -33,6 +37,7 @@ impl Coverage {
     /// Counts what a case met; the outcome is of a side that shows its state.
     pub fn count(&mut self, case: &Case, outcome: &Outcome) {
         self.opening(outcome.opening);
+        self.spinup.count(case, outcome);
         let state = outcome.state.as_ref().expect("the state is shown");
         for exchange in case.exchanges(outcome) {
             self.requests += 1;
@@ -65,6 +70,7 @@ impl Coverage {
             .chain(of_kinds)
             .chain(self.link_errors.missing())
             .chain(self.front_page.missing())
+            .chain(self.spinup.missing())
             .collect()
     }
 
@@ -83,6 +89,7 @@ impl Coverage {
             .chain(of_kinds)
             .chain(self.link_errors.unknown())
             .chain(self.front_page.unknown())
+            .chain(self.spinup.unknown())
             .collect()
     }
 }
@@ -98,7 +105,11 @@ impl fmt::Display for Coverage {
         for (kind, met) in &self.kinds {
             write!(f, "\n{kind:?}\n{met}")?;
         }
-        write!(f, "\n{}\n{}", self.link_errors, self.front_page)
+        write!(
+            f,
+            "\n{}\n{}\n{}",
+            self.link_errors, self.front_page, self.spinup
+        )
     }
 }
 

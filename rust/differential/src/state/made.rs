@@ -10,6 +10,7 @@ use crate::names::{DISK, MAX_PHYS};
 use crate::pair::Pair;
 use crate::random::Random;
 use crate::request;
+use crate::spinup::is_unsound_by_hold;
 use crate::text::LEVELS;
 use std::collections::BTreeMap;
 
@@ -19,6 +20,8 @@ pub struct Made {
     pub requests: u64,
     /// By the call's number.
     pub calls: BTreeMap<u32, u64>,
+    /// 107 for a spin-up hold alone, with the first header and with the Linux header.
+    pub by_hold: [u64; 2],
     pub differences: Vec<Difference>,
 }
 
@@ -41,11 +44,15 @@ impl Made {
         let state = state(random, &adapter, broken);
         let mut pair = Pair::of(&state, &lent_medium(random, &state));
         self.states += 1;
+        let by_hold = state
+            .as_array()
+            .is_some_and(|state| is_unsound_by_hold(state, pair.medium()));
         for _ in 0..4 {
             let request = request::any(random, &adapter);
             self.requests += 1;
             let number = pair.request(&request)?.number;
             *self.calls.entry(number).or_default() += 1;
+            self.by_hold[usize::from(request.header.is_linux())] += u64::from(by_hold);
         }
         Ok(())
     }

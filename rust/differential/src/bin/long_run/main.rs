@@ -104,7 +104,7 @@ impl Compared {
                 .push(format!("unknown to the documents: {what}"));
         }
         println!(
-            "{} requests in {round} cases, each by the run and by the calls; two runs and last writers of {} lists more; \
+            "{} requests in {round} cases, each by the run and by the calls; two runs, last writers and spin-up holds of {} lists more; \
              {} bodies behind both headers; {} requests that report; {}",
             runs.coverage.requests,
             runs.properties,
@@ -129,6 +129,10 @@ impl Compared {
             seconds(start)
         );
         println!("calls     {}", counts(&made.calls));
+        println!(
+            "107 for a spin-up hold alone: {} with the first header, {} with the Linux header",
+            made.by_hold[0], made.by_hold[1]
+        );
         self.call_requests += made.requests;
         self.differ(&made.differences);
     }

@@ -8,7 +8,7 @@ use differential::random::Random;
 use differential::session::Framing;
 use differential::side::{CALLS, SIDES};
 use differential::two_runs::{check, check_denied, check_each, check_read_only, Level, Start};
-use differential::{generate, last_writer, reporting, sameness, text};
+use differential::{generate, last_writer, reporting, sameness, spinup, text};
 
 /// The most requests of a case, the requests of a list, the bodies behind both headers, the requests that report.
 const CASE: usize = 120;
@@ -38,7 +38,7 @@ impl Runs {
         }
     }
 
-    /// Two runs and the last writers of a list.
+    /// Two runs, the last writers and the spin-up holds of a list.
     pub fn properties(&mut self, seed: u64, framing: Framing) {
         self.properties += 1;
         let random = &mut Random::new(seed);
@@ -64,12 +64,18 @@ impl Runs {
                 let left = check_read_only(side, &start, &low);
                 self.note(&format!("{name}, read-only"), left);
             }
-            let rates = last_writer::check(&case, &side.run(&case)).map(drop);
+            let outcome = side.run(&case);
+            let rates = last_writer::check(&case, &outcome).map(drop);
             self.note(&format!("{name}, last writer"), rates);
+            let holds = spinup::check(&case, &outcome).map(drop);
+            self.note(&format!("{name}, spin-up holds"), holds);
         }
         for side in CALLS {
-            let name = format!("seed {seed}, {side:?}, two runs by calls");
-            self.note(&name, check_each(side, &start, &low, &high));
+            let name = format!("seed {seed}, {side:?}");
+            let left = check_each(side, &start, &low, &high);
+            self.note(&format!("{name}, two runs by calls"), left);
+            let holds = spinup::check_each(side, &start, &high);
+            self.note(&format!("{name}, spin-up holds by calls"), holds);
         }
         self.note(&format!("seed {seed}, denied"), check_denied(&start, &low));
     }
