@@ -30,6 +30,8 @@ enum Event {
     Reached,
     /// Code 26 shows its signature.
     Signature,
+    /// Code 25 reaches the disk in spite of its hold, which may not be.
+    ReachedAtHold,
 }
 
 /// Every event that a header's requests have to meet; one with the Linux header is not denied.
@@ -171,6 +173,7 @@ fn passthrough(file: &[u8], holds: &Holds, exchange: &Exchange) -> Option<Event>
     let address = &of_file[phy::ATTACHED_SAS_ADDRESS..phy::ATTACHED_SAS_ADDRESS + 8];
     let to_disk = body[stp::DESTINATION..stp::DESTINATION + 8] == *address;
     match granted(exchange) {
+        true if holds.has(n) => Some(Event::ReachedAtHold),
         true if of_file[phy::SPINUP_HOLD] == 1 => Some(Event::Reached),
         false if to_disk && holds.has(n) => Some(Event::NotConnected),
         _ => None,
