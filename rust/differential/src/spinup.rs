@@ -43,13 +43,11 @@ impl Holds {
     fn agree_on_rates<'a>(&self, phy_of: impl Fn(usize) -> &'a [u8]) -> Result<(), String> {
         for n in 0..self.bytes.len() {
             let negotiated = phy_of(n)[phy::NEGOTIATED];
-            let at_hold = negotiated == rate::SATA_SPINUP_HOLD;
-            let wrong = if self.has(n) {
-                negotiated >= rate::G_1_5
-            } else {
-                at_hold
+            let wrong: &[u8] = match self.has(n) {
+                true => &[rate::G_1_5, rate::G_3_0],
+                false => &[rate::SATA_SPINUP_HOLD],
             };
-            if wrong {
+            if wrong.contains(&negotiated) {
                 return Err(format!("phy {n} has the rate {negotiated}"));
             }
         }
@@ -102,14 +100,13 @@ pub fn check(case: &Case, outcome: &Outcome) -> Result<usize, String> {
             .agree_as_shown(exchange)
             .map_err(|what| format!("request {}: {what}", n + 1))?;
     }
-    match &outcome.state {
-        Some(state) => holds.agree(state)?,
-        None => {}
+    if let Some(state) = &outcome.state {
+        holds.agree(state)?;
     }
     Ok(cleared)
 }
 
-/// The claim by the calls, after each request and not at the end alone; after a granted code 21 the rate is 1, or what a link reset gives.
+/// The claim by the calls, after each request and not at the end alone.
 pub fn check_each(side: Side, start: &Start, level: &Level) -> Result<(), String> {
     let (mut state, mut medium) = (vec![0x5A; state::SIZE], start.medium.to_vec());
     if side.open(&level.text, start.file, &medium, &mut state) != call::DONE {
