@@ -1,7 +1,7 @@
 -- The effect of code 25: the sectors of every disk, judged by the request, its return code and its reply. Assumes nothing.
 use mathlib.Core.Path.{_≡_, refl, sym, _∙_, ap}
 use mathlib.Core.Logic.{_≢_}
-use mathlib.Core.Bool.{Bool, cond, _&&_, not}
+use mathlib.Core.Bool.{Bool, true, cond, _&&_, not}
 use mathlib.Core.List.{List}
 use Prim.Native.Nat.{ℕ, _+_, _-_, _*_, _<_, _≤_}
 use native.Mathlib.Omega.{arith}
@@ -48,15 +48,16 @@ module _ (ad : Adapter) (medium body : List ℕ) where
       Small s = s .code ≤ 2014
 
   -- it is refused, or the phy that it selects is connected and its disk serves the command
-  passed-by : (P : Passed → Type 0) → ((code : ℕ) → 0 < code → code ≤ 2014 → P (passes code medium body))
-      → (selectsIn ad body .code ≡ success → P (onDisk medium (selectsIn ad body .phy .0) body)) → P (passthrough ad medium body)
+  pub passed-by : (P : Passed → Type 0) → ((code : ℕ) → 0 < code → code ≤ 2014 → P (passes code medium body))
+      → (selectsIn ad body .code ≡ success → connected (phyIn ad (selectsIn ad body .phy .0)) (connectionRate body) (destinationOf body) ≡ true
+      → P (onDisk medium (selectsIn ad body .phy .0) body)) → P (passthrough ad medium body)
   unfolding passthrough passedTo sentTo
   passed-by P refused done =
       let s : Selection = selectsIn ad body in
       either P (formHolds (fis body 0) (connectionRate body))
       (either-by P (eqb (s .code) success)
-      (λ h. either P (connected (phyIn ad (s .phy .0)) (connectionRate body) (destinationOf body)) (done (eqb-true (s .code) success h))
-      (refused connectionFailed (omega arith) (omega arith)))
+      (λ h. either-by P (connected (phyIn ad (s .phy .0)) (connectionRate body) (destinationOf body)) (done (eqb-true (s .code) success h))
+      (λ _. refused connectionFailed (omega arith) (omega arith)))
       (λ h. let n : s .code ≢ 0 = eqb-false (s .code) success h in
       refused (s .code) (omega arith) chosen-code))
       (refused invalidParameter (omega arith) (omega arith))
@@ -149,7 +150,7 @@ pub passthrough-read : (ad : Adapter) (store : Store) (body : List ℕ) → leng
     → (command body ≡ 0x30 → ⊥) → passthrough ad (store .medium) body .medium ≡ store .medium
 unfolding onDisk
 passthrough-read ad store body h r n =
-    passed-by ad (store .medium) body (λ (p : Passed). p .medium ≡ store .medium) (λ _ _ _. refl) (λ c. medium-read ad store body h r c n)
+    passed-by ad (store .medium) body (λ (p : Passed). p .medium ≡ store .medium) (λ _ _ _. refl) (λ c _. medium-read ad store body h r c n)
 
 pub passthrough-effect : (ad : Adapter) (store : Store) (body : List ℕ) → length (store .medium) ≡ mediumSize ad → 136 + dataLength body ≤ length body
     → Does ad store stpPassthru body (passed ad store (passthrough ad (store .medium) body))
@@ -157,7 +158,7 @@ unfolding onDisk
 passthrough-effect ad store body h r =
     passed-by ad (store .medium) body (λ (p : Passed). Does ad store stpPassthru body (passed ad store p))
     (λ code k l. record { small = l; effect = no-effect ad _ store (ne-eqb code success (λ e. omega arith)) })
-    (λ c. record {
+    (λ c _. record {
       small = disk-code ad store body h r c;
       effect = record {
         tables = tables-kept ad (told ad store body h r c) (λ w e. quiet-other w (told ad store body h r c) (λ q. omega arith));

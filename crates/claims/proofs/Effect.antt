@@ -7,8 +7,8 @@ use mathlib.Core.List.{List}
 use Prim.Native.Nat.{ℕ, _<_, _≤_}
 use native.Mathlib.Omega.{arith}
 use lib.Dec.{eqb}
-use lib.ListN.{length}
-use borrow.Author.Tests.{ne-eqb}
+use lib.ListN.{length, getD}
+use borrow.Author.Tests.{eq-eqb, ne-eqb}
 use Rattle.laws.specs.Choice.{by-bool}
 use Rattle.codes.specs.Codes.{setPhyInfo, stpPassthru}
 use Rattle.phy.specs.declared.Phy.{Phy}
@@ -23,7 +23,7 @@ use Rattle.stp.specs.Body.{phyAsked, portAsked}
 use Rattle.state.specs.State.{adapterHolds}
 use Rattle.service.specs.Serve.{Store, Served}
 use Rattle.claims.specs.LastWriter.{Told, Writer, after, Sector, sectorIn, sectorWriter, rateWriter}
-use Rattle.claims.specs.SpinUp.{holdWriter}
+use Rattle.claims.specs.SpinUp.{spinupWriter}
 use Rattle.claims.proofs.Ways.{toldOf}
 use Rattle.claims.proofs.Moved.{Sized, Moved, moved-refl, stored-by, moved-stored, few-phys, stored-holds}
 
@@ -58,7 +58,7 @@ pub record OnTables (ad : Adapter) (t : Told) (bd : Adapter) : Type 0 where
   pub holds : adapterHolds ad ≡ true → adapterHolds bd ≡ true
   pub minima : (n : ℕ) → programmedMinimum (phyIn bd n) ≡ after (rateWriter 2) n t (programmedMinimum (phyIn ad n))
   pub maxima : (n : ℕ) → programmedMaximum (phyIn bd n) ≡ after (rateWriter 3) n t (programmedMaximum (phyIn ad n))
-  pub hold : (n : ℕ) → phyIn bd n .«spinup_hold» ≡ after holdWriter n t (phyIn ad n .«spinup_hold»)
+  pub spinup : (n : ℕ) → phyIn bd n .«spinup_hold» ≡ after spinupWriter n t (phyIn ad n .«spinup_hold»)
 
 -- on what is lent beside them: the disks keep their length, and the sectors are as the request tells
 pub record OnStore (ad : Adapter) (t : Told) (before next : Store) : Type 0 where
@@ -85,7 +85,7 @@ module _ (ad : Adapter) (t : Told) where
         holds = λ h. h;
         minima = λ n. sym (q (rateWriter 2) refl n _);
         maxima = λ n. sym (q (rateWriter 3) refl n _);
-        hold = λ n. sym (q holdWriter refl n _);
+        spinup = λ n. sym (q spinupWriter refl n _);
       }
 
   pub store-kept : (store : Store) → Quiet (sectorWriter (selectsIn ad)) t → OnStore ad t store store
@@ -103,6 +103,21 @@ module _ (ad : Adapter) (t : Told) where
 
 -- ---- one phy stored
 
+-- a writer that writes of no phy but the one that the body names, as those of code 21 do
+abbrev pub OwnPhy : Writer ℕ ℕ → Type 0
+OwnPhy w = (n : ℕ) (t : Told) → eqb (getD (t .body) 0 0) n ≡ false → w .writes n t ≡ false
+
+own-rate : (place : ℕ) → OwnPhy (rateWriter place)
+own-rate place n t e = rw e refl
+
+own-spinup : OwnPhy spinupWriter
+own-spinup n t e = e
+
+-- a granted code 21 leaves the phy that it names not held
+pub spinup-told : (t : Told) (n before : ℕ) → t .granted ≡ true → t .control ≡ setPhyInfo → getD (t .body) 0 0 ≡ n → after spinupWriter n t before ≡ 0
+unfolding after
+spinup-told t n before g c b = rw (g, eq-eqb (t .control) setPhyInfo c, eq-eqb (getD (t .body) 0 0) n b) refl
+
 -- a phy that may be stored as phy n: it keeps what no request changes, passes the rules, and has the rates and the hold that the request tells,
 -- which sets those of no other phy
 pub record Storing (ad : Adapter) (t : Told) (n : ℕ) (phy : Phy) : Type 0 where
@@ -112,9 +127,8 @@ pub record Storing (ad : Adapter) (t : Told) (n : ℕ) (phy : Phy) : Type 0 wher
   pub negotiated : negotiatedHolds phy ≡ true
   pub minimum : programmedMinimum phy ≡ after (rateWriter 2) n t (programmedMinimum (phyIn ad n))
   pub maximum : programmedMaximum phy ≡ after (rateWriter 3) n t (programmedMaximum (phyIn ad n))
-  pub hold : phy .«spinup_hold» ≡ after holdWriter n t (phyIn ad n .«spinup_hold»)
-  pub others : (place m before : ℕ) → m ≢ n → after (rateWriter place) m t before ≡ before
-  pub otherHolds : (m before : ℕ) → m ≢ n → after holdWriter m t before ≡ before
+  pub spinup : phy .«spinup_hold» ≡ after spinupWriter n t (phyIn ad n .«spinup_hold»)
+  pub others : (w : Writer ℕ ℕ) → w .code ≡ setPhyInfo → OwnPhy w → (m before : ℕ) → m ≢ n → after w m t before ≡ before
 
 -- one that a code other than 21 stores: its settings stay
 pub storing-kept : (ad : Adapter) (t : Told) (n : ℕ) (phy : Phy) → (t .control ≡ setPhyInfo → ⊥) → n < ad .«phy_count» → Kept (phyIn ad n) phy
@@ -127,9 +141,8 @@ storing-kept ad t n phy c k v f g s =
       negotiated = g;
       minimum = s .minimum ∙ sym (quiet-other (rateWriter 2) t c n (programmedMinimum (phyIn ad n)));
       maximum = s .maximum ∙ sym (quiet-other (rateWriter 3) t c n (programmedMaximum (phyIn ad n)));
-      hold = s .hold ∙ sym (quiet-other holdWriter t c n (phyIn ad n .«spinup_hold»));
-      others = λ place m before _. quiet-other (rateWriter place) t c m before;
-      otherHolds = λ m before _. quiet-other holdWriter t c m before;
+      spinup = s .spinup ∙ sym (quiet-other spinupWriter t c n (phyIn ad n .«spinup_hold»));
+      others = λ w e _ m before _. quiet-other w t (λ q. c (q ∙ e)) m before;
     }
 
 pub stored-effect : (ad : Adapter) (t : Told) (n : ℕ) (phy : Phy) → adapterHolds ad ≡ true → Sized ad → Storing ad t n phy → OnTables ad t (withPhy ad n phy)
@@ -139,9 +152,9 @@ stored-effect ad t n phy h z s =
       moved = moved-stored ad n phy m (s .kept);
       holds = λ _. stored-holds ad h n (s .below) phy (z .phys) (s .fields) (s .negotiated);
       minima = stored-by (λ (i : ℕ) (x : Phy). programmedMinimum x ≡ after (rateWriter 2) i t (programmedMinimum (phyIn ad i))) ad n phy m (s .minimum)
-          (λ i d. sym (s .others 2 i _ d));
+          (λ i d. sym (s .others (rateWriter 2) refl (own-rate 2) i _ d));
       maxima = stored-by (λ (i : ℕ) (x : Phy). programmedMaximum x ≡ after (rateWriter 3) i t (programmedMaximum (phyIn ad i))) ad n phy m (s .maximum)
-          (λ i d. sym (s .others 3 i _ d));
-      hold = stored-by (λ (i : ℕ) (x : Phy). x .«spinup_hold» ≡ after holdWriter i t (phyIn ad i .«spinup_hold»)) ad n phy m (s .hold)
-          (λ i d. sym (s .otherHolds i _ d));
+          (λ i d. sym (s .others (rateWriter 3) refl (own-rate 3) i _ d));
+      spinup = stored-by (λ (i : ℕ) (x : Phy). x .«spinup_hold» ≡ after spinupWriter i t (phyIn ad i .«spinup_hold»)) ad n phy m (s .spinup)
+          (λ i d. sym (s .others spinupWriter refl own-spinup i _ d));
     }

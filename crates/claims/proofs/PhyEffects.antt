@@ -8,14 +8,14 @@ use native.Mathlib.Omega.{arith}
 use lib.Dec.{eqb, leb, ltb}
 use lib.ListN.{length, getD}
 use borrow.Author.Tests.{eq-eqb, ne-eqb, ltb-true}
-use Rattle.laws.specs.Choice.{by-bool, both-right, either, either-by}
+use Rattle.laws.specs.Choice.{and-false, by-bool, both-right, either, either-by}
 use Rattle.codes.specs.Codes.{success, setPhyInfo, getLinkErrors, resetPlace, linkErrorResetCounts}
 use Rattle.phy.specs.declared.Phy.{Phy}
 use Rattle.phy.specs.declared.PhyIdentifier.{PhyIdentifier}
 use Rattle.phy.specs.Entity.{programmedMinimum, programmedMaximum}
 use Rattle.phy.specs.Change.{released, cleared, configured}
 use Rattle.phy.proofs.KeptLaws.{Kept, Settings, kept-trans}
-use Rattle.phy.proofs.ChangedLaws.{kept-released, hold-released, kept-cleared, settings-cleared, kept-configured, hold-configured, minimum-configured, maximum-configured}
+use Rattle.phy.proofs.ChangedLaws.{kept-released, spinup-released, kept-cleared, settings-cleared, kept-configured, spinup-configured, minimum-configured, maximum-configured}
 use Rattle.fields.specs.Rules.{rangeHolds, fieldsHold}
 use Rattle.fields.proofs.HoldLaws.{range-released, fields-released, fields-cleared, fields-configured}
 use Rattle.link.specs.Rule.{negotiatedHolds}
@@ -27,10 +27,9 @@ use Rattle.set_phy_info.specs.SetPhyInfo.{phySetting, programmable, resulting, 
 use Rattle.link_errors.specs.LinkErrors.{afterReset, linkErrors, countersShown}
 use Rattle.state.specs.State.{adapterHolds}
 use Rattle.service.specs.Serve.{Store, changed}
-use Rattle.claims.specs.LastWriter.{Told, after, rateWriter, sectorWriter}
-use Rattle.claims.specs.SpinUp.{holdWriter}
+use Rattle.claims.specs.LastWriter.{Told, Writer, after, rateWriter, sectorWriter}
 use Rattle.claims.proofs.Moved.{Sized, fields-in, negotiated-in}
-use Rattle.claims.proofs.Effect.{quiet-other, selectsIn, Does, store-kept, no-effect, report-effect, Storing, storing-kept, stored-effect}
+use Rattle.claims.proofs.Effect.{quiet-other, selectsIn, Does, store-kept, no-effect, report-effect, OwnPhy, spinup-told, Storing, storing-kept, stored-effect}
 
 -- the phy that a body names
 abbrev named : List ℕ → ℕ
@@ -39,24 +38,21 @@ named body = getD body 0 0
 -- ---- code 21: a phy that it sets
 
 module _ (phy : Phy) (s : PhySetting) (minimum maximum : ℕ) (e : length (phy .entity) ≡ 64) where
-  -- no longer held, and then with other settings
-  abbrev free : Phy
-  free = released phy
-
+  -- no longer held at spin-up, and then with other settings
   abbrev set : Phy
-  set = configured free (s .class) minimum maximum
+  set = configured (released phy) (s .class) minimum maximum
 
-  free-long : length (free .entity) ≡ 64
-  free-long = kept-released phy .size ∙ e
+  released-long : length (released phy .entity) ≡ 64
+  released-long = kept-released phy .size ∙ e
 
   kept-set : Kept phy set
-  kept-set = kept-trans phy free set (kept-released phy) (kept-configured free (s .class) minimum maximum free-long)
+  kept-set = kept-trans phy (released phy) set (kept-released phy) (kept-configured (released phy) (s .class) minimum maximum released-long)
 
   long : length (set .entity) ≡ 64
   long = kept-set .size ∙ e
 
-  set-free : set .«spinup_hold» ≡ 0
-  set-free = hold-configured free (s .class) minimum maximum ∙ hold-released phy
+  set-spinup : set .«spinup_hold» ≡ 0
+  set-spinup = spinup-configured (released phy) (s .class) minimum maximum ∙ spinup-released phy
 
   set-settings : Settings set (setTo phy s minimum maximum)
   unfolding setTo relinked
@@ -79,7 +75,7 @@ module _ (phy : Phy) (s : PhySetting) (minimum maximum : ℕ) (e : length (phy .
       let c : leb (s .class) 3 ≡ true = both-right (leb (s .negotiated) 1) (leb (s .class) 3) a in
       let q : rangeHolds phy minimum maximum ≡ true = both-right (programmable (s .minimum) && programmable (s .maximum)) (rangeHolds phy minimum maximum) r in
       let g : fieldsHold set n p ≡ true =
-      fields-configured free (s .class) minimum maximum n p free-long c (range-released phy minimum maximum ∙ q) (fields-released phy n p f) in
+      fields-configured (released phy) (s .class) minimum maximum n p released-long c (range-released phy minimum maximum ∙ q) (fields-released phy n p f) in
       either (λ (x : Phy). fieldsHold x n p ≡ true) (eqb (s .negotiated) 1) (fields-disabled set n p ∙ g) (fields-reset set n p ∙ g)
 
 -- ---- code 21: the ways that it can go
@@ -121,19 +117,10 @@ told-rate place body before =
     rw (eq-eqb (named body) (named body) refl)
     (by-bool (λ (t : Bool). cond (not t) (getD body place 0) before ≡ cond t before (getD body place 0)) refl refl (eqb (getD body place 0) 0))
 
-told-other : (body : List ℕ) (place m before : ℕ) → m ≢ named body → after (rateWriter place) m (toldSet body) before ≡ before
+-- of no other phy it writes anything
+told-other : (body : List ℕ) (w : Writer ℕ ℕ) → OwnPhy w → (m before : ℕ) → m ≢ named body → after w m (toldSet body) before ≡ before
 unfolding after
-told-other body place m before d = rw (ne-eqb (named body) m (λ q. d (sym q))) refl
-
--- ---- code 21: the hold at spin-up that it tells
-
-told-hold : (body : List ℕ) (before : ℕ) → after holdWriter (named body) (toldSet body) before ≡ 0
-unfolding after
-told-hold body before = rw (eq-eqb (named body) (named body) refl) refl
-
-held-other : (body : List ℕ) (m before : ℕ) → m ≢ named body → after holdWriter m (toldSet body) before ≡ before
-unfolding after
-held-other body m before d = rw (ne-eqb (named body) m (λ q. d (sym q))) refl
+told-other body w own m before d = rw (own m (toldSet body) (ne-eqb (named body) m (λ q. d (sym q))), and-false) refl
 
 -- ---- code 22: the ways that it can go
 
@@ -171,7 +158,7 @@ module _ (ad : Adapter) (store : Store) (body : List ℕ) (h : adapterHolds ad �
       let l : ℕ = resulting (getD body 2 0) (programmedMinimum phy) in
       let u : ℕ = resulting (getD body 3 0) (programmedMaximum phy) in
       let s = set-settings phy (phySetting body) l u e in
-      let f : length (released phy .entity) ≡ 64 = free-long phy (phySetting body) l u e in
+      let f : length (released phy .entity) ≡ 64 = released-long phy (phySetting body) l u e in
       record {
         below = k;
         kept = set-kept phy (phySetting body) l u e;
@@ -179,9 +166,8 @@ module _ (ad : Adapter) (store : Store) (body : List ℕ) (h : adapterHolds ad �
         negotiated = set-negotiated phy (phySetting body) l u e;
         minimum = s .minimum ∙ minimum-configured (released phy) (phySetting body .class) l u f ∙ sym (told-rate 2 body (programmedMinimum phy));
         maximum = s .maximum ∙ maximum-configured (released phy) (phySetting body .class) l u f ∙ sym (told-rate 3 body (programmedMaximum phy));
-        hold = s .hold ∙ set-free phy (phySetting body) l u e ∙ sym (told-hold body (phy .«spinup_hold»));
-        others = told-other body;
-        otherHolds = held-other body;
+        spinup = s .spinup ∙ set-spinup phy (phySetting body) l u e ∙ sym (spinup-told (toldSet body) n (phy .«spinup_hold») refl refl refl);
+        others = λ w _ own m before d. told-other body w own m before d;
       }
 
   pub set-effect : Does ad store setPhyInfo body (changed store (setInfo ad body))

@@ -17,7 +17,7 @@ use Rattle.phy.specs.declared.Phy.{Phy}
 use Rattle.phy.specs.declared.PhyIdentifier.{PhyIdentifier}
 use Rattle.phy.specs.Block.{countersAt, phyOf, zeroPhy}
 use Rattle.phy.specs.Entity.{attachedOf, noDevice, isSata}
-use Rattle.fields.specs.Rules.{isRate, inRange, rangeHolds, identifyHolds, ratesHold, emptyHolds, deviceHolds, attachedHold, heldSignatureHolds, holdAllowed, fieldsHold, phyZero}
+use Rattle.fields.specs.Rules.{isRate, inRange, rangeHolds, identifyHolds, ratesHold, emptyHolds, deviceHolds, attachedHold, heldSignatureHolds, spinupAllowed, fieldsHold, phyZero}
 
 -- ---- what the code finds
 
@@ -122,13 +122,13 @@ module _ (phy : Phy) where
       (eqb (phy .held) 0) refl
 
   -- whether the device is held at spin-up
-  pub hold-none : phy .«spinup_hold» ≡ 0 → true ≡ holdAllowed phy
-  unfolding holdAllowed
-  hold-none e = rw e refl
+  pub spinup-none : phy .«spinup_hold» ≡ 0 → true ≡ spinupAllowed phy
+  unfolding spinupAllowed
+  spinup-none e = rw e refl
 
-  pub hold-some : (r : Bool) → (phy .«spinup_hold» ≡ 0 → ⊥) → r ≡ isSata phy → eqb (phy .«spinup_hold») 1 && r ≡ holdAllowed phy
-  unfolding holdAllowed
-  hold-some r d q = rw (ne-eqb (phy .«spinup_hold») 0 d, q) refl
+  pub spinup-some : (r : Bool) → (phy .«spinup_hold» ≡ 0 → ⊥) → r ≡ isSata phy → eqb (phy .«spinup_hold») 1 && r ≡ spinupAllowed phy
+  unfolding spinupAllowed
+  spinup-some r d q = rw (ne-eqb (phy .«spinup_hold») 0 d, q) refl
 
   -- where nothing is attached the rest follows, but for bytes 101 and 104
   empty-rest : emptyHolds phy && leb (phy .held) 1 && heldSignatureHolds phy ≡ emptyHolds phy
@@ -139,33 +139,26 @@ module _ (phy : Phy) where
       (λ h. let t = five-hold (allZero (attachedOf phy)) (allZero (phy .signature)) (eqb (phy .held) 0) (eqb (phy .lowest) 0) (eqb (phy .highest) 0) h in
       rw (h, eqb-true (phy .held) 0 (t .2), t .1) refl)
 
-  -- what bytes 101 and 104 ask, with any two tests between and before
-  between : (a b x y : Bool) → x && y ≡ false → false ≡ a && x && b && y
-  between a b true y e = rw (e, and-false) refl
-  between a b false y e = rw and-false refl
+  -- nothing attached, and a device attached
+  pub nothing-attached : (r : Bool) → noDevice phy ≡ true → r ≡ emptyHolds phy → r ≡ attachedHold phy && leb (phy .held) 1 && heldSignatureHolds phy
+  unfolding attachedHold
+  nothing-attached r e q = q ∙ rw e (sym empty-rest)
 
-  -- bytes 101 and 104, nothing attached, a device attached
-  pub flags-failed : (h : Bool) → h ≡ holdAllowed phy → leb (phy .fixed) 1 && h ≡ false
-      → false ≡ attachedHold phy && leb (phy .held) 1 && leb (phy .fixed) 1 && heldSignatureHolds phy && holdAllowed phy
-  flags-failed h q e = between (attachedHold phy && leb (phy .held) 1) (heldSignatureHolds phy) (leb (phy .fixed) 1) (holdAllowed phy) (rw q at e)
+  pub device-attached : (r : Bool) → noDevice phy ≡ false → r ≡ deviceHolds phy && (leb (phy .held) 1 && heldSignatureHolds phy)
+      → r ≡ attachedHold phy && leb (phy .held) 1 && heldSignatureHolds phy
+  unfolding attachedHold
+  device-attached r e q = q ∙ rw e (sym (and-assoc (deviceHolds phy) (leb (phy .held) 1) (heldSignatureHolds phy)))
 
-  module _ (h : Bool) (q : h ≡ holdAllowed phy) (e : leb (phy .fixed) 1 && h ≡ true) where
-    fixed-passed : leb (phy .fixed) 1 ≡ true
-    fixed-passed = both-left (leb (phy .fixed) 1) h e
+  -- bytes 101 and 104
+  pub fixed-failed : leb (phy .fixed) 1 ≡ false → false ≡ attachedHold phy && leb (phy .held) 1 && leb (phy .fixed) 1 && heldSignatureHolds phy && spinupAllowed phy
+  fixed-failed e = rw (e, and-false) refl
 
-    hold-passed : holdAllowed phy ≡ true
-    hold-passed = sym q ∙ both-right (leb (phy .fixed) 1) h e
+  pub spinup-failed : spinupAllowed phy ≡ false → false ≡ attachedHold phy && leb (phy .held) 1 && leb (phy .fixed) 1 && heldSignatureHolds phy && spinupAllowed phy
+  spinup-failed e = rw (e, and-false) refl
 
-    pub nothing-attached : (r : Bool) → noDevice phy ≡ true → r ≡ emptyHolds phy
-        → r ≡ attachedHold phy && leb (phy .held) 1 && leb (phy .fixed) 1 && heldSignatureHolds phy && holdAllowed phy
-    unfolding attachedHold
-    nothing-attached r f k = k ∙ rw (fixed-passed, hold-passed, f, and-true, and-true) (sym empty-rest)
-
-    pub device-attached : (r : Bool) → noDevice phy ≡ false → r ≡ deviceHolds phy && (leb (phy .held) 1 && heldSignatureHolds phy)
-        → r ≡ attachedHold phy && leb (phy .held) 1 && leb (phy .fixed) 1 && heldSignatureHolds phy && holdAllowed phy
-    unfolding attachedHold
-    device-attached r f k =
-        k ∙ rw (fixed-passed, hold-passed, f, and-true, and-true) (sym (and-assoc (deviceHolds phy) (leb (phy .held) 1) (heldSignatureHolds phy)))
+  pub both-passed : (r : Bool) → leb (phy .fixed) 1 ≡ true → spinupAllowed phy ≡ true → r ≡ attachedHold phy && leb (phy .held) 1 && heldSignatureHolds phy
+      → r ≡ attachedHold phy && leb (phy .held) 1 && leb (phy .fixed) 1 && heldSignatureHolds phy && spinupAllowed phy
+  both-passed r e f q = q ∙ rw (e, f, and-true, and-true) refl
 
 module _ (phy : Phy) (n : PhyIdentifier) (p : ℕ) where
   pub identify-failed : identifyHolds phy n p ≡ false → false ≡ fieldsHold phy n p
@@ -177,7 +170,7 @@ module _ (phy : Phy) (n : PhyIdentifier) (p : ℕ) where
   rates-failed e f = rw (e, f) refl
 
   pub rates-passed : (r : Bool) → identifyHolds phy n p ≡ true → ratesHold phy ≡ true
-      → r ≡ attachedHold phy && leb (phy .held) 1 && leb (phy .fixed) 1 && heldSignatureHolds phy && holdAllowed phy → r ≡ fieldsHold phy n p
+      → r ≡ attachedHold phy && leb (phy .held) 1 && leb (phy .fixed) 1 && heldSignatureHolds phy && spinupAllowed phy → r ≡ fieldsHold phy n p
   unfolding fieldsHold
   rates-passed r e f q = rw (e, f) q
 

@@ -1,4 +1,4 @@
--- The field rules of one phy (document 01, "Adapter file", "Field rules"), in the document's order. Assumes nothing.
+-- The field rules of one phy (document 01, "Adapter file", "Field rules"; W-205), in the document's order. Assumes nothing.
 use mathlib.Core.Bool.{Bool, cond, _&&_, _||_}
 use Prim.Native.Nat.{ℕ}
 use lib.Dec.{eqb, leb, ltb}
@@ -51,8 +51,8 @@ unfoldable pub heldSignatureHolds : Phy → Bool
 heldSignatureHolds phy = cond (eqb (phy .held) 1) (isSata phy) (allZero (phy .signature))
 
 -- W-205: "Byte 104 of a phy block, so far 0, may be 1 on a SATA phy"
-unfoldable pub holdAllowed : Phy → Bool
-holdAllowed phy = eqb (phy .«spinup_hold») 0 || (eqb (phy .«spinup_hold») 1 && isSata phy)
+unfoldable pub spinupAllowed : Phy → Bool
+spinupAllowed phy = eqb (phy .«spinup_hold») 0 || (eqb (phy .«spinup_hold») 1 && isSata phy)
 
 -- the field rules of phy n among p, but for the negotiated rate's; "signature held (0/1)", "fixed (0/1)"
 unfoldable pub fieldsHold : Phy → PhyIdentifier → ℕ → Bool
@@ -63,7 +63,7 @@ fieldsHold phy n p =
     && leb (phy .held) 1
     && leb (phy .fixed) 1
     && heldSignatureHolds phy
-    && holdAllowed phy
+    && spinupAllowed phy
 
 -- "zero past p": every byte and every counter is 0
 unfoldable pub phyZero : Phy → Bool

@@ -1,4 +1,4 @@
-// The field rules of one phy (document 01, "Adapter file", "Field rules"). The rule of the negotiated rate rests on the link rule and is
+// The field rules of one phy (document 01, "Adapter file", "Field rules"; W-205). The rule of the negotiated rate rests on the link rule and is
 // not here.
 use phy::ATTACHED;
 use phy::CLASS;
@@ -13,7 +13,7 @@ ghost use mathlib.Core.Path.{_≡_};
 ghost use mathlib.Core.Bool.{_&&_};
 ghost use lib.Dec.{leb};
 ghost use Rattle.wire.specs.Same.{allZero};
-ghost use Rattle.fields.specs.Rules.{isRate, inRange, identifyHolds, rangeHolds, ratesHold, emptyHolds, deviceHolds, attachedHold, heldSignatureHolds, holdAllowed, fieldsHold};
+ghost use Rattle.fields.specs.Rules.{isRate, inRange, identifyHolds, rangeHolds, ratesHold, emptyHolds, deviceHolds, attachedHold, heldSignatureHolds, spinupAllowed, fieldsHold};
 
 // A rate code: 1.5 or 3.0 Gb/s.
 pub fn is_rate(code: u8) -> bool
@@ -115,8 +115,8 @@ fn with_device_holds(phy: Phy) -> bool
 }
 
 // A SATA phy alone may be held at spin-up.
-fn hold_allowed(phy: Phy) -> bool
-    ensures { λ r. ⌜ r ≡ holdAllowed phy ⌝ }
+fn spinup_allowed(phy: Phy) -> bool
+    ensures { λ r. ⌜ r ≡ spinupAllowed phy ⌝ }
 {
     if phy.spinup_hold == 0 {
         return true;
@@ -124,15 +124,25 @@ fn hold_allowed(phy: Phy) -> bool
     (phy.spinup_hold == 1) & phy.is_sata()
 }
 
-// What is attached, and bytes 100, 101 and 104. Where nothing is attached no signature is held, so byte 100 needs no test of its own.
-fn attached_holds(phy: Phy) -> bool
-    ensures { λ r. ⌜ r ≡ (attachedHold phy && leb (phy .held) 1 && leb (phy .fixed) 1 && heldSignatureHolds phy && holdAllowed phy) ⌝ }
+// What is attached, and byte 100. Where nothing is attached no signature is held, so byte 100 needs no test of its own.
+fn by_device_holds(phy: Phy) -> bool
+    ensures { λ r. ⌜ r ≡ (attachedHold phy && leb (phy .held) 1 && heldSignatureHolds phy) ⌝ }
 {
-    if (phy.fixed <= 1) & hold_allowed(phy) {
-        if phy.no_device() {
-            return empty_holds(phy);
+    if phy.no_device() {
+        return empty_holds(phy);
+    }
+    with_device_holds(phy)
+}
+
+// The same, and bytes 101 and 104.
+fn attached_holds(phy: Phy) -> bool
+    ensures { λ r. ⌜ r ≡ (attachedHold phy && leb (phy .held) 1 && leb (phy .fixed) 1 && heldSignatureHolds phy && spinupAllowed phy) ⌝ }
+{
+    if phy.fixed <= 1 {
+        if spinup_allowed(phy) {
+            return by_device_holds(phy);
         }
-        return with_device_holds(phy);
+        return false;
     }
     false
 }

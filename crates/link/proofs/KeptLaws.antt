@@ -1,94 +1,36 @@
 -- What a link reset and disabling keep and set, and that the field rules go on holding. Assumes nothing.
 use mathlib.Core.Path.{_≡_, refl, sym, _∙_}
-use mathlib.Core.Logic.{_≢_}
-use mathlib.Core.Bool.{Bool, true, false, cond, _&&_, _||_}
+use mathlib.Core.Bool.{Bool, true, _||_}
 use Prim.Native.Nat.{ℕ}
-use native.Mathlib.Omega.{arith}
 use lib.Dec.{eqb}
 use lib.ListN.{length}
-use borrow.Author.Tests.{eq-eqb, eqb-true}
-use Rattle.laws.specs.Choice.{by-bool, both-left, both-right, either}
+use borrow.Author.Tests.{eq-eqb, ne-eqb}
+use Rattle.laws.specs.Choice.{by-bool, either}
 use Rattle.phy.specs.declared.Phy.{Phy}
 use Rattle.phy.specs.declared.PhyIdentifier.{PhyIdentifier}
-use Rattle.phy.specs.Entity.{attachedType, noDevice, negotiatedOf, programmedMinimum, programmedMaximum}
-use Rattle.phy.specs.Change.{released, cleared, raised, negotiatedAs}
-use Rattle.fields.specs.Rules.{isRate, fieldsHold}
+use Rattle.phy.specs.Entity.{negotiatedOf}
+use Rattle.phy.specs.Change.{cleared, raised, negotiatedAs}
+use Rattle.fields.specs.Rules.{fieldsHold}
 use Rattle.phy.proofs.KeptLaws.{Kept, Settings, kept-trans, settings-trans}
 use Rattle.phy.proofs.ChangedLaws.{kept-cleared, kept-raised, kept-negotiated, settings-cleared, settings-raised, settings-negotiated, negotiated-cleared, negotiated-raised, negotiated-now}
 use Rattle.fields.proofs.HoldLaws.{fields-kept}
-use Rattle.codes.specs.Codes.{phyDisabled, linkRateFailed, sataSpinupHold, linkRate15, linkRate30}
-use Rattle.link.specs.Rule.{inBoth, ratesRule, heldRate, ruleOf, counted, reset, disabled, negotiatedHolds}
-
--- ---- the rule
-
--- what the code finds
-module _ (hold rate : ℕ) (r : Bool) (e : r ≡ isRate rate) where
-  pub held-now : eqb hold 1 && r ≡ true → sataSpinupHold ≡ heldRate hold rate
-  unfolding heldRate
-  held-now q = rw (← e, q) refl
-
-  pub held-not : eqb hold 1 && r ≡ false → rate ≡ heldRate hold rate
-  unfolding heldRate
-  held-not q = rw (← e, q) refl
-
--- W-205: "a link rule result of 8 or 9 becomes 3", and no other one
-rates-free : (none : Bool) (minimum maximum lowest highest : ℕ) → ratesRule none minimum maximum lowest highest ≢ sataSpinupHold
-unfolding ratesRule
-rates-free none minimum maximum lowest highest =
-    let No : (ℕ → Type 0) = λ rate. rate ≢ sataSpinupHold in
-    either No none (λ e. omega arith)
-    (either No (inBoth linkRate30 minimum maximum lowest highest) (λ e. omega arith)
-    (either No (inBoth linkRate15 minimum maximum lowest highest) (λ e. omega arith) (λ e. omega arith)))
-
-module _ (hold rate : ℕ) where
-  waits : rate ≢ sataSpinupHold → heldRate hold rate ≡ sataSpinupHold → (hold ≡ 1) × (isRate rate ≡ true)
-  unfolding heldRate
-  waits n =
-      by-bool (λ (t : Bool). eqb hold 1 && isRate rate ≡ t → cond t sataSpinupHold rate ≡ sataSpinupHold → (hold ≡ 1) × (isRate rate ≡ true))
-      (λ p _. (eqb-true hold 1 (both-left (eqb hold 1) (isRate rate) p), both-right (eqb hold 1) (isRate rate) p))
-      (λ _ q. absurd (n q)) (eqb hold 1 && isRate rate) refl
-
-  no-rate : hold ≡ 1 → isRate (heldRate hold rate) ≡ false
-  unfolding heldRate isRate
-  no-rate e =
-      rw e (by-bool (λ (t : Bool). isRate rate ≡ t → isRate (cond t sataSpinupHold rate) ≡ false) (λ _. refl) (λ p. p) (isRate rate) refl)
-
-module _ (phy : Phy) where
-  -- the rate of the two ranges
-  abbrev plain : ℕ
-  plain = ratesRule (noDevice phy) (programmedMinimum phy) (programmedMaximum phy) (phy .lowest) (phy .highest)
-
-  -- so the rule gives 3 only where the phy is held, and would have a rate if it were not,
-  rule-waits : ruleOf phy ≡ sataSpinupHold → (phy .«spinup_hold» ≡ 1) × (isRate (ruleOf (released phy)) ≡ true)
-  unfolding ruleOf heldRate released noDevice attachedType programmedMinimum programmedMaximum
-  rule-waits e =
-      waits (phy .«spinup_hold») plain (rates-free (noDevice phy) (programmedMinimum phy) (programmedMaximum phy) (phy .lowest) (phy .highest)) e
-
-  -- and of a phy that is held it gives no rate
-  rule-held : phy .«spinup_hold» ≡ 1 → isRate (ruleOf phy) ≡ false
-  unfolding ruleOf
-  rule-held e = no-rate (phy .«spinup_hold») plain e
-
-  -- the same of the rate that stands there
-  module _ (h : negotiatedHolds phy ≡ true) where
-    pub rate-waits : negotiatedOf phy ≡ sataSpinupHold → (phy .«spinup_hold» ≡ 1) × (isRate (ruleOf (released phy)) ≡ true)
-    unfolding negotiatedHolds
-    rate-waits e =
-        let q : eqb sataSpinupHold (ruleOf phy) ≡ true = rw e at h in
-        rule-waits (sym (eqb-true sataSpinupHold (ruleOf phy) q))
-
-    pub rate-held : phy .«spinup_hold» ≡ 1 → isRate (negotiatedOf phy) ≡ false
-    unfolding negotiatedHolds isRate
-    rate-held e =
-        by-bool (λ (t : Bool). eqb (negotiatedOf phy) phyDisabled ≡ t → isRate (negotiatedOf phy) ≡ false)
-        (λ p. rw (eqb-true (negotiatedOf phy) phyDisabled p) refl)
-        (λ p. rw (eqb-true (negotiatedOf phy) (ruleOf phy) (rw p at h)) (rule-held e))
-        (eqb (negotiatedOf phy) phyDisabled) refl
+use Rattle.codes.specs.Codes.{phyDisabled, linkRateFailed}
+use Rattle.link.specs.Rule.{ruleOf, counted, reset, disabled, negotiatedHolds}
 
 -- the rule goes by what neither changes
 rule-kept : (a b : Phy) → Kept a b → Settings a b → ruleOf b ≡ ruleOf a
 unfolding ruleOf
 rule-kept a b k s = cc
+
+-- what the code finds: the rate r of a phy, and the rate x that the rule gives it
+module _ (phy : Phy) (r : ℕ) (e : r ≡ negotiatedOf phy) where
+  pub disabled-passes : r ≡ phyDisabled → true ≡ negotiatedHolds phy
+  unfolding negotiatedHolds
+  disabled-passes d = rw (← e, d) refl
+
+  pub other-passes : (x : ℕ) → (r ≡ phyDisabled → ⊥) → x ≡ ruleOf phy → eqb r x ≡ negotiatedHolds phy
+  unfolding negotiatedHolds
+  other-passes x n q = rw (← e, ← q, ne-eqb r phyDisabled n) refl
 
 -- a rate that is what the rule gives passes
 given : (phy : Phy) → negotiatedOf phy ≡ ruleOf phy → negotiatedHolds phy ≡ true

@@ -5,7 +5,7 @@ mod all;
 pub use all::all_negotiated;
 use phy::Phy;
 ghost use mathlib.Core.Path.{_≡_};
-ghost use Rattle.link.specs.Rule.{inBoth, ratesRule, heldRate, ruleOf, counted, reset, disabled, negotiatedHolds};
+ghost use Rattle.link.specs.Rule.{inBoth, ratesRule, waitingRate, spinupRate, ruleOf, counted, reset, disabled, negotiatedHolds};
 
 fn in_both(rate: u8, minimum: u8, maximum: u8, lowest: u8, highest: u8) -> bool
     ensures { λ r. ⌜ r ≡ inBoth rate minimum maximum lowest highest ⌝ }
@@ -28,12 +28,21 @@ fn rates_rule(none: bool, minimum: u8, maximum: u8, lowest: u8, highest: u8) -> 
     codes::LINK_RATE_FAILED
 }
 
-// A device held at spin-up has no rate yet.
-fn held_rate(hold: u8, rate: u8) -> u8
-    ensures { λ r. ⌜ r ≡ heldRate hold rate ⌝ }
+// A device that waits for its spin-up has no rate yet.
+fn waiting_rate(rate: u8) -> u8
+    ensures { λ r. ⌜ r ≡ waitingRate rate ⌝ }
 {
-    if (hold == 1) & fields::is_rate(rate) {
+    if fields::is_rate(rate) {
         return codes::SATA_SPINUP_HOLD;
+    }
+    rate
+}
+
+fn spinup_rate(hold: u8, rate: u8) -> u8
+    ensures { λ r. ⌜ r ≡ spinupRate hold rate ⌝ }
+{
+    if hold == 1 {
+        return waiting_rate(rate);
     }
     rate
 }
@@ -49,7 +58,7 @@ pub fn rule(phy: Phy) -> u8
         phy.lowest,
         phy.highest,
     );
-    held_rate(phy.spinup_hold, rate)
+    spinup_rate(phy.spinup_hold, rate)
 }
 
 fn count_failure(phy: Phy, rate: u8) -> Phy
@@ -81,5 +90,8 @@ pub fn negotiated_holds(phy: Phy) -> bool
     ensures { λ r. ⌜ r ≡ negotiatedHolds phy ⌝ }
 {
     let negotiated = phy.negotiated();
-    (negotiated == codes::PHY_DISABLED) | (negotiated == rule(phy))
+    if negotiated == codes::PHY_DISABLED {
+        return true;
+    }
+    negotiated == rule(phy)
 }

@@ -20,9 +20,9 @@ pub kept-released : (phy : Phy) → Kept phy (released phy)
 unfolding released
 kept-released phy = kept-beside phy (released phy) refl (λ c. c) refl refl refl refl refl
 
-pub hold-released : (phy : Phy) → released phy .«spinup_hold» ≡ 0
+pub spinup-released : (phy : Phy) → released phy .«spinup_hold» ≡ 0
 unfolding released
-hold-released phy = refl
+spinup-released phy = refl
 
 -- ---- the counters
 
@@ -70,7 +70,7 @@ settings-negotiated phy rate =
       class = byte-other phy negotiatedPlace rate classPlace (λ e. omega arith);
       minimum = ap (λ (b : ℕ). b / 16) (byte-other phy negotiatedPlace rate minimumPlace (λ e. omega arith));
       maximum = ap (λ (b : ℕ). b / 16) (byte-other phy negotiatedPlace rate maximumPlace (λ e. omega arith));
-      hold = refl;
+      spinup = refl;
     }
 
 pub negotiated-now : (phy : Phy) (rate : ℕ) → length (phy .entity) ≡ 64 → negotiatedOf (negotiatedAs phy rate) ≡ rate
@@ -111,9 +111,9 @@ module _ (phy : Phy) (class minimum maximum : ℕ) where
   ranged = programmedAs classed minimumPlace minimum
 
   -- whether the phy is held at spin-up is carried
-  pub hold-configured : configured phy class minimum maximum .«spinup_hold» ≡ phy .«spinup_hold»
+  pub spinup-configured : configured phy class minimum maximum .«spinup_hold» ≡ phy .«spinup_hold»
   unfolding configured programmedAs stored
-  hold-configured = refl
+  spinup-configured = refl
 
   module _ (e : length (phy .entity) ≡ 64) where
     kept-classed : Kept phy classed

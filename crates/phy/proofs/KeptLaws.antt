@@ -1,5 +1,5 @@
--- What a change of a phy keeps, in two records, for a store of one byte and for a change of the counters. The changes
--- themselves are in Changed. Assumes nothing.
+-- What a change of a phy keeps, in two records, for a store of one byte and for a change beside the entity, of the counters or of the hold at
+-- spin-up. The changes themselves are in Changed. Assumes nothing.
 use mathlib.Core.Path.{_≡_, refl, _∙_, ap}
 use mathlib.Core.List.{List}
 use Prim.Native.Nat.{ℕ, _<_}
@@ -35,7 +35,7 @@ pub record Settings (a b : Phy) : Type 0 where
   pub class : classOf b ≡ classOf a
   pub minimum : programmedMinimum b ≡ programmedMinimum a
   pub maximum : programmedMaximum b ≡ programmedMaximum a
-  pub hold : b .«spinup_hold» ≡ a .«spinup_hold»
+  pub spinup : b .«spinup_hold» ≡ a .«spinup_hold»
 
 pub kept-refl : (a : Phy) → Kept a a
 kept-refl a =
@@ -85,7 +85,7 @@ settings-trans a b c p q =
       class = q .class ∙ p .class;
       minimum = q .minimum ∙ p .minimum;
       maximum = q .maximum ∙ p .maximum;
-      hold = q .hold ∙ p .hold;
+      spinup = q .spinup ∙ p .spinup;
     }
 
 -- ---- one byte of the entity
@@ -130,7 +130,7 @@ kept-stored phy k v h i j m n =
 
 -- ---- what stands beside the entity
 
--- the counters, and whether the device is held at spin-up
+-- a change of the counters or of the hold at spin-up alone
 pub kept-beside : (a b : Phy) → b .entity ≡ a .entity → (length (a .counters) ≡ 4 → length (b .counters) ≡ 4) → b .signature ≡ a .signature → b .held ≡ a .held
     → b .fixed ≡ a .fixed → b .lowest ≡ a .lowest → b .highest ≡ a .highest → Kept a b
 unfolding identifierOf portOf hardwareMinimum hardwareMaximum attachedOf attachedType noDevice attachedAddress isSata
@@ -159,4 +159,4 @@ kept-counters phy c h = kept-beside phy (withCounters phy c) refl h refl refl re
 
 pub settings-counters : (phy : Phy) (c : List ℕ) → Settings phy (withCounters phy c)
 unfolding classOf programmedMinimum programmedMaximum
-settings-counters phy c = record { class = refl; minimum = refl; maximum = refl; hold = refl }
+settings-counters phy c = record { class = refl; minimum = refl; maximum = refl; spinup = refl }

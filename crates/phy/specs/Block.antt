@@ -1,4 +1,4 @@
--- The phy that a block of the adapter file holds (document 01, "Adapter file"). Assumes nothing.
+-- The phy that a block of the adapter file holds (document 01, "Adapter file"; W-205). Assumes nothing.
 use mathlib.Core.List.{List, [], _∷_}
 use Prim.Native.Nat.{ℕ, _+_}
 use lib.ListN.{getD, replicate}

@@ -23,7 +23,7 @@ infoStart = 2
 abbrev pub phyStart : ℕ → ℕ
 phyStart n = 176 + phySize * n
 
--- all 32
+-- how many bytes all 32 phys have
 abbrev pub physSize : ℕ
 physSize = 3360
 

@@ -19,7 +19,7 @@ pub const INFO: usize = 2;
 
 pub const PHYS: usize = 176;
 
-// All 32 phys.
+// How many bytes all 32 phys have.
 pub const PHYS_SIZE: usize = 3360;
 
 pub const ROWS: usize = 3536;
