@@ -49,8 +49,8 @@ extern "C" {
 #define ASCHEKNOPF_PHY_FIXED 101       /* 1 if set phy info may not change it, else 0 */
 #define ASCHEKNOPF_PHY_LOWEST 102      /* the device's lowest rate: 8 is 1.5 Gb/s, 9 is 3.0 Gb/s; 0 with no device */
 #define ASCHEKNOPF_PHY_HIGHEST 103     /* its highest */
-#define ASCHEKNOPF_PHY_SPINUP_HOLD 104 /* 1 if a SATA disk is held at spin-up, else 0; its negotiated rate is 3 where it would be 8 or 9,
-                                          until a granted set phy info makes this 0 */
+#define ASCHEKNOPF_PHY_SPINUP_HOLD 104 /* 1 if a SATA disk is held at spin-up, else 0; another value, or 1 without a SATA disk, is refused.
+                                          With 1 the negotiated rate is 3 in place of 8 or 9, until a granted set phy info makes this 0 */
 
 /* Row i, for i from 0 to 63; those from a on are 0. The offsets below are in its bytes. */
 #define ASCHEKNOPF_ROW(i) (3537 + 20 * (size_t)(i))

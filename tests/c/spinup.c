@@ -3,6 +3,29 @@
 #define PROGRAM "spinup.c"
 #include "spinup.h"
 
+/* The disk is of the higher rate, so that the lower one alone does not reach it. */
+static void high_disk(uint8_t *phy)
+{
+    phy[ASCHEKNOPF_PHY_LOWEST] = HIGH;
+}
+
+static void disabled(uint8_t *phy)
+{
+    phy[NEGOTIATED] = DISABLED;
+}
+
+static void failed_one(uint8_t *phy)
+{
+    high_disk(phy);
+    phy[MAXIMUM] = 0x89, phy[NEGOTIATED] = FAILED;
+}
+
+static void worn_out(uint8_t *phy)
+{
+    failed_one(phy);
+    memset(phy + ASCHEKNOPF_PHY_COUNTERS, 0xFF, 16);
+}
+
 /* Every command, by phy, by port and by both, at each connection rate. */
 static void unreached(const struct header *h)
 {
@@ -33,7 +56,7 @@ static void released(const struct header *h)
         lent = sound;
         check_at("spin-up hold", i, not_connected(h));
         check_at("released", i, sets(h, &a, RANGES[i].left, 0));
-        check_at("reached", i, reads(h) && in_state(1)[HOLD] == 1 && in_state(1)[NEGOTIATED] == SPINUP_HOLD);
+        check_at("reached", i, reads(h) && in_state(1)[HOLD] == 1 && in_state(1)[NEGOTIATED] == SATA_SPINUP_HOLD);
         check_at("released twice", i, sets(h, &a, RANGES[i].left, 0) && reads(h));
     }
 }

@@ -4,14 +4,14 @@
 
 #include "phys.h"
 
-enum { HOLD = ASCHEKNOPF_PHY_SPINUP_HOLD, PROBLEM = ASCHEKNOPF_PHY_COUNTERS + 12, OTHER = 0x3C };
+enum { PROBLEM = ASCHEKNOPF_PHY_COUNTERS + 12, OTHER = 0x3C };
 
 /* It is opened at a level, phy 0 altered before, to begin again from. No sector is empty. */
 static inline void open_with_holds(int level, void (*alter)(uint8_t *phy))
 {
     start("good");
     for (size_t n = 0; n < 2; n++)
-        in_file(n)[HOLD] = 1, in_file(n)[NEGOTIATED] = SPINUP_HOLD;
+        in_file(n)[HOLD] = 1, in_file(n)[NEGOTIATED] = SATA_SPINUP_HOLD;
     alter(in_file(0));
     seal();
     memset(lent.medium, OTHER, PHYS * DISK);
@@ -22,45 +22,6 @@ static inline void open_with_holds(int level, void (*alter)(uint8_t *phy))
 static inline void as_it_is(uint8_t *phy)
 {
     (void)phy;
-}
-
-/* The disk is of the higher rate, so that the lower one alone does not reach it. */
-static inline void high_disk(uint8_t *phy)
-{
-    phy[ASCHEKNOPF_PHY_LOWEST] = HIGH;
-}
-
-static inline void disabled(uint8_t *phy)
-{
-    phy[NEGOTIATED] = DISABLED;
-}
-
-static inline void failed_one(uint8_t *phy)
-{
-    high_disk(phy);
-    phy[MAXIMUM] = 0x89, phy[NEGOTIATED] = FAILED;
-}
-
-static inline void worn_out(uint8_t *phy)
-{
-    failed_one(phy);
-    memset(phy + ASCHEKNOPF_PHY_COUNTERS, 0xFF, 16);
-}
-
-static inline void fixed(uint8_t *phy)
-{
-    phy[ASCHEKNOPF_PHY_FIXED] = 1;
-}
-
-/* Its hardware has the lower rate alone, and the higher. */
-static inline void low_hardware(uint8_t *phy)
-{
-    phy[MINIMUM] = phy[MAXIMUM] = 0x88;
-}
-
-static inline void high_hardware(uint8_t *phy)
-{
-    phy[MINIMUM] = phy[MAXIMUM] = 0x99;
 }
 
 /* A code 21 to phy 0. */

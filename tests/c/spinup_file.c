@@ -3,8 +3,6 @@
 #define PROGRAM "spinup_file.c"
 #include "phys.h"
 
-enum { HOLD = ASCHEKNOPF_PHY_SPINUP_HOLD };
-
 /* What is attached; only a SATA phy may have the hold. */
 static const struct device {
     const char *what;
@@ -46,7 +44,7 @@ static void attach(uint8_t *phy, const struct device *d, const struct rates *r)
 /* The rule of the byte, and that of the negotiated rate, which goes by it. */
 static int may_be(const struct device *d, const struct rates *r, uint8_t hold, uint8_t negotiated)
 {
-    const uint8_t rule = d == &DEVICES[NONE] ? UNKNOWN : hold == 1 && r->rule != FAILED ? SPINUP_HOLD : r->rule;
+    const uint8_t rule = d == &DEVICES[NONE] ? UNKNOWN : hold == 1 && r->rule != FAILED ? SATA_SPINUP_HOLD : r->rule;
     return (hold == 0 || (hold == 1 && d->sata)) && (negotiated == DISABLED || negotiated == rule);
 }
 
@@ -64,7 +62,7 @@ static int state_answers(int sound_one)
     return right;
 }
 
-/* Phy n so in the file, its block's check left and then made good, and so in the state of an adapter that was opened. */
+/* Phy n so in the file, its block's check wrong and then made good, and so in the state of an adapter that was opened. */
 static void phy_is(size_t n, const struct device *d, const struct rates *r, uint8_t hold, uint8_t negotiated)
 {
     const int sound_one = may_be(d, r, hold, negotiated);
@@ -73,7 +71,8 @@ static void phy_is(size_t n, const struct device *d, const struct rates *r, uint
     lent = sound;
     attach(in_file(n), d, r);
     in_file(n)[HOLD] = hold, in_file(n)[NEGOTIATED] = negotiated;
-    in_file(n)[CHECK_AT] ^= 1;
+    seal();
+    in_file(n)[CHECK_AT + 3] ^= 0x80;
     int right = opens_with(103);
     seal();
     snprintf(name, sizeof name, "in a file, %s", d->what);
@@ -88,7 +87,7 @@ static void phy_is(size_t n, const struct device *d, const struct rates *r, uint
 /* Every device, with each rate that the rules tell from others. */
 static void devices(size_t n)
 {
-    const uint8_t holds[5] = {0, 1, 2, 3, 255}, rates[7] = {UNKNOWN, DISABLED, FAILED, SPINUP_HOLD, 4, LOW, HIGH};
+    const uint8_t holds[5] = {0, 1, 2, 3, 255}, rates[7] = {UNKNOWN, DISABLED, FAILED, SATA_SPINUP_HOLD, 4, LOW, HIGH};
     for (int d = 0; d < ANY; d++)
         for (int r = 0; r < RANGES; r++)
             for (int i = 0; i < 5 * 7; i++)
@@ -104,14 +103,14 @@ static void values(size_t n)
             phy_is(n, &DEVICES[SATA], &RATES[r], 1, (uint8_t)value);
         }
         phy_is(n, &DEVICES[SATA], &RATES[0], (uint8_t)value, DISABLED);
-        phy_is(n, &DEVICES[SATA], &RATES[0], (uint8_t)value, SPINUP_HOLD);
+        phy_is(n, &DEVICES[SATA], &RATES[0], (uint8_t)value, SATA_SPINUP_HOLD);
     }
 }
 
 /* A disk with a hold and a signature, on a phy that is fixed. */
 static void fixed(size_t n)
 {
-    const uint8_t rates[3] = {DISABLED, SPINUP_HOLD, HIGH};
+    const uint8_t rates[3] = {DISABLED, SATA_SPINUP_HOLD, HIGH};
     for (int i = 0; i < 3; i++) {
         lent = sound;
         attach(in_file(n), &DEVICES[SATA], &RATES[0]);

@@ -3,6 +3,22 @@
 #define PROGRAM "spinup_refused.c"
 #include "spinup.h"
 
+static void fixed(uint8_t *phy)
+{
+    phy[ASCHEKNOPF_PHY_FIXED] = 1;
+}
+
+/* Its hardware has the lower rate alone, and the higher. */
+static void low_hardware(uint8_t *phy)
+{
+    phy[MINIMUM] = phy[MAXIMUM] = 0x88;
+}
+
+static void high_hardware(uint8_t *phy)
+{
+    phy[MINIMUM] = phy[MAXIMUM] = 0x99;
+}
+
 /* Each code 21 that is refused, by its own checks and before, leaves every byte of the state. */
 static void refused(const struct header *h)
 {

@@ -24,7 +24,7 @@ pub fn fields_are_sound(state: &State) -> bool {
         && state.live_connectors().iter().all(connector_is_sound)
 }
 
-/// The field rules of phy n. "Negotiated rate is 1 (disabled) or what the link rule gives", to a phy
+/// The field rules of phy n. "Negotiated rate is 1 (disabled) or what the link rule gives", of a phy
 /// held at spin-up too.
 fn phy_is_sound(phy: &Phy, n: u8, p: u8) -> bool {
     phy.entity[entity::PHY_IDENTIFIER] == n

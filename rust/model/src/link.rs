@@ -25,7 +25,7 @@ pub fn rule_of(phy: &Phy) -> u8 {
         phy.programmed(),
         phy.device(),
     );
-    if phy.spinup_hold != 0 && is_rate(result) {
+    if phy.spinup_hold == 1 && is_rate(result) {
         return rate::SATA_SPINUP_HOLD;
     }
     result

@@ -117,7 +117,7 @@ impl Phy {
         self.bytes[SIGNATURE..HELD].copy_from_slice(&signature.unwrap_or_default());
     }
 
-    /// Makes it a SATA phy of both rates with a signature, which is held at spin-up and may be changed.
+    /// Makes it a SATA phy of both rates that is held at spin-up, has a signature and may be changed.
     pub fn hold_at_spinup(&mut self, random: &mut Random) {
         random.fill(&mut self.bytes[ATTACHED..ENTITY]);
         self.attach(random, Device::Sata);

@@ -77,7 +77,7 @@ pub fn place(random: &mut Random, held: &Held, asked: fn(&Phy) -> bool) -> Optio
     some_phy(random, held, asked).map(|n| held.phy(n))
 }
 
-pub fn holds(phy: &Phy) -> bool {
+pub fn holds_signature(phy: &Phy) -> bool {
     phy.bytes[HELD] == 1
 }
 

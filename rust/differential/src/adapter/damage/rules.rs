@@ -56,7 +56,7 @@ pub const RULES: &[Damage] = &[
     }),
     field("attached device type", |r, held| {
         let at = place(r, held, |phy| {
-            phy.has_device() && !holds(phy) && !phy.has_spinup_hold()
+            phy.has_device() && !holds_signature(phy) && !phy.has_spinup_hold()
         })?;
         set(held, at + ATTACHED, bad_type(r))
     }),
@@ -99,7 +99,7 @@ pub const RULES: &[Damage] = &[
         device_rates(r, held, &[(9, 8)])
     }),
     field("signature held", |r, held| {
-        let at = place(r, held, holds)?;
+        let at = place(r, held, holds_signature)?;
         set(held, at + HELD, r.within(2, 255) as u8)
     }),
     field("fixed", |r, held| {
@@ -114,7 +114,7 @@ pub const RULES: &[Damage] = &[
         spoil(r, held, at + SIGNATURE, at + HELD)
     }),
     field("signature bytes not held", |r, held| {
-        let at = place(r, held, |phy| phy.is_sata() && !holds(phy))?;
+        let at = place(r, held, |phy| phy.is_sata() && !holds_signature(phy))?;
         spoil(r, held, at + SIGNATURE, at + HELD)
     }),
     field("spin-up hold of no device", |r, held| {

@@ -164,7 +164,7 @@ fn code_26_still_answers() {
                 let body = [&[0, 0xAA, 0xBB, 0xCC][..], &[0xDD; 20]].concat();
                 let expected = [&body[..4], &signature].concat();
                 assert_eq!(asked(&header, &state, 26, &body), (0, expected));
-                // none held
+                // no signature
                 assert_eq!(asked(&header, &state, 26, &[4; 24]).0, 2010);
             }
         }
