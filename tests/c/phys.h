@@ -1,5 +1,5 @@
 /* A phy's bytes, for the programs that alter one in a file or in a state: their places in its entity, which comes first, by 6.7.4.2,
-   and of its hold, and what the negotiated rate says besides a rate. */
+   the place of its hold, and what the negotiated rate says besides a rate. */
 #ifndef PHYS_H
 #define PHYS_H
 

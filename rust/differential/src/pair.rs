@@ -1,7 +1,7 @@
 //! The calls on both implementations at once: after each call the number and every byte of state, medium and buffer have to
 //! be equal.
 
-use crate::names::call;
+use crate::names::{call, state};
 use crate::request::Request;
 use crate::side::Side;
 use crate::wire::{equal_bytes, first_difference};
@@ -58,6 +58,18 @@ impl Pair {
         equal_numbers(library, model)?;
         self.equal_bytes()?;
         Ok(library)
+    }
+
+    /// Asserts that an opening at Full has this number, over a state of other bytes: it leaves the state that is expected, or the zero state.
+    #[track_caller]
+    pub fn opens(what: &str, file: &[u8], medium: &[u8], number: u32, accepted: &[u8]) {
+        let mut pair = Pair::of(&[0xA5; state::SIZE], medium);
+        assert_eq!(pair.open(b"CSMI=Full;", file), Ok(number), "{what}");
+        let right = match number {
+            call::DONE => pair.state() == accepted,
+            _ => *pair.state() == [0; state::SIZE],
+        };
+        assert!(right, "{what}: the state");
     }
 
     /// One request. With a number other than 0, state and buffer are also held against what they were.

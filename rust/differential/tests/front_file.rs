@@ -13,18 +13,6 @@ use differential::state::reading::front_page;
 use differential::text::{FULL, RESTRICTED};
 use differential::wire::put_word;
 
-/// Both sides open with this number, over a state of other bytes: the state that is expected, or the zero state.
-fn opens(what: &str, file: &[u8], medium: &[u8], number: u32, accepted: &[u8]) {
-    let mut pair = Pair::of(&[0xA5; state::SIZE], medium);
-    let given = pair.open(b"CSMI=Full;", file);
-    assert_eq!(given, Ok(number), "{what}");
-    let right = match number {
-        call::DONE => pair.state() == accepted,
-        _ => *pair.state() == [0; state::SIZE],
-    };
-    assert!(right, "{what}: the state");
-}
-
 /// A file, and the state that it gives.
 struct Opened {
     file: Vec<u8>,
@@ -65,9 +53,9 @@ impl Opened {
         let what = format!("p {}, a {}, byte {at}", self.p, self.a);
         let mut file = self.file.clone();
         file[at] = byte;
-        opens(&what, &file, &self.medium, call::BLOCK_CHECK, &[]);
+        Pair::opens(&what, &file, &self.medium, call::BLOCK_CHECK, &[]);
         seal(&mut file);
-        opens(&what, &file, &self.medium, number, accepted);
+        Pair::opens(&what, &file, &self.medium, number, accepted);
     }
 }
 
@@ -129,7 +117,7 @@ fn every_bit_of_a_pinout_in_a_file() {
                     call::COUNT_OR_FIELD
                 };
                 let what = format!("p {p}, connector {n}, bit {bit:08X}h");
-                opens(&what, &file, &opened.medium, number, &state);
+                Pair::opens(&what, &file, &opened.medium, number, &state);
             }
         }
     }
@@ -205,7 +193,7 @@ fn the_length_of_a_file() {
         let row_blocks = a.div_ceil(25);
         let right = (2 + 2 * p + row_blocks) * BLOCK;
         assert_eq!((opened.file.len(), file_length(p, a)), (right, right));
-        opens(
+        Pair::opens(
             "sound",
             &opened.file,
             &opened.medium,
@@ -225,7 +213,7 @@ fn the_length_of_a_file() {
             file.resize(length, 0);
             seal(&mut file);
             let what = format!("p {p}, a {a}, {length} bytes");
-            opens(&what, &file, &opened.medium, call::FILE_LENGTH, &[]);
+            Pair::opens(&what, &file, &opened.medium, call::FILE_LENGTH, &[]);
         }
     }
 }
@@ -240,13 +228,13 @@ fn a_pinout_comes_after_the_checks_and_before_the_rows() {
         let rows = controller_at(3, 0);
         file.copy_within(rows..rows + row::OS, rows + row::SIZE);
         seal(&mut file);
-        opens("rows", &file, short, call::SHARED_ROW, &[]);
+        Pair::opens("rows", &file, short, call::SHARED_ROW, &[]);
         let wrong = random.pick(&bits_of(!PINOUTS));
         put_word(&mut file, connector_at(3, 9, random.below(3)), wrong);
         seal(&mut file);
-        opens("pinout", &file, short, call::COUNT_OR_FIELD, &[]);
+        Pair::opens("pinout", &file, short, call::COUNT_OR_FIELD, &[]);
         let block = random.within(0, file.len() / BLOCK - 1);
         file[block * BLOCK + CHECK] ^= 1;
-        opens("check", &file, short, call::BLOCK_CHECK, &[]);
+        Pair::opens("check", &file, short, call::BLOCK_CHECK, &[]);
     }
 }

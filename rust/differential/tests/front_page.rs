@@ -9,15 +9,10 @@ use differential::names::{
 use differential::pair::Pair;
 use differential::random::Random;
 use differential::request::linux::put_direction;
-use differential::request::{first, linux, Request};
+use differential::request::{first, linux, Request, HEADERS};
 use differential::side::return_code;
 use differential::text::{LEVELS, NONE};
 use differential::wire::put_word;
-
-type OfBody = fn(u32, &[u8]) -> Request;
-
-/// A sound header before a body, each.
-const HEADERS: [OfBody; 2] = [first::of_body, linux::of_body];
 
 /// What a code shows of an adapter: "References from p on are zero."
 fn shown(adapter: &Adapter, control: u32) -> Vec<u8> {

@@ -10,16 +10,11 @@ use differential::names::{call, code, header, link_errors as at, phy, state, sta
 use differential::need;
 use differential::pair::Pair;
 use differential::random::Random;
-use differential::request::{first, linux, Request};
+use differential::request::{first, OfBody, Request, HEADERS};
 use differential::side::{return_code, CALLS, SIDES};
 use differential::text::{FULL, LEVELS, LIMITED, NONE, RESTRICTED};
 use differential::two_runs::{check, check_each, Level, Start};
 use differential::wire::put_word;
-
-type OfBody = fn(u32, &[u8]) -> Request;
-
-/// A sound header before a body, each.
-const HEADERS: [OfBody; 2] = [first::of_body, linux::of_body];
 
 /// All four counters.
 const COUNTERS: usize = at::SIZE - at::COUNTERS;

@@ -7,7 +7,7 @@ use differential::need;
 use differential::random::Random;
 use differential::reporting::{any, check, clear, resets, walk, REPORTING};
 use differential::request::passthrough::Passthrough;
-use differential::request::{first, fis, linux, Request};
+use differential::request::{fis, Request, HEADERS};
 use differential::sameness::Lent;
 use differential::side::{CALLS, SIDES};
 use differential::text::{self, FULL, LEVELS, NONE};
@@ -112,7 +112,7 @@ fn the_other_codes_do_write() {
             (0, code::SET_PHY_INFO, &body[..]),
             (1, code::STP_PASSTHRU, &passthrough),
         ] {
-            for request in [first::of_body(control, body), linux::of_body(control, body)] {
+            for request in HEADERS.map(|of_body| of_body(control, body)) {
                 let seen = CALLS.map(|side| check(side, &mut lent.clone(), &request).is_err());
                 assert_eq!(seen[0], seen[1], "seed {seed}");
                 written[of_code] += usize::from(seen[0]);

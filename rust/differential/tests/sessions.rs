@@ -9,7 +9,7 @@ use differential::names::{
 };
 use differential::random::Random;
 use differential::request::passthrough::Passthrough;
-use differential::request::{first, fis, linux, sound, Header, Request};
+use differential::request::{first, fis, linux, sound, Header, Request, HEADERS};
 use differential::session::{end::cut, Framing};
 use differential::wire::{put_word, word};
 use differential::{generate, names, need, text};
@@ -22,9 +22,6 @@ fn agreed(case: &Case) -> Outcome {
 
 /// A sound request of a code, with each header.
 const SOUND: [fn(&mut Random, &Adapter, u32) -> Request; 2] = [first::sound, linux::sound];
-
-/// A sound header of a code before a body, each.
-const OF_BODY: [fn(u32, &[u8]) -> Request; 2] = [first::of_body, linux::of_body];
 
 /// A case of sound requests at a level, one code after the other.
 fn sound_case(seed: u64, level: u8, count: usize) -> Case {
@@ -53,7 +50,7 @@ fn every_command(seed: u64, level: u8) -> Case {
         for (lba, count) in [(3, 2), fis::edge(random)] {
             let fis = fis::command(random, command, lba, count);
             let body = Passthrough::of_fis(random, &adapter, fis).body(random);
-            requests.extend(OF_BODY.map(|of_body| of_body(names::code::STP_PASSTHRU, &body)));
+            requests.extend(HEADERS.map(|of_body| of_body(names::code::STP_PASSTHRU, &body)));
         }
     }
     let text = text::of_level(random, level);
@@ -177,7 +174,7 @@ fn every_value_of_each_body_byte_agrees() {
     let adapter = Adapter::connected(random, 5, 6);
     for control in names::code::ALL {
         let body = small_body(random, &adapter, control);
-        for of_body in OF_BODY {
+        for of_body in HEADERS {
             let sound = of_body(control, &body);
             let start = sound.header.size();
             let end = sound.buffer.len().min(start + stp::STATUS_FIS);
@@ -344,7 +341,7 @@ fn long_data_buffers_agree() {
             passthrough.data = random.bytes(data);
             passthrough.data_length = data as u32;
             let body = passthrough.body(random);
-            requests.extend(OF_BODY.map(|of_body| of_body(names::code::STP_PASSTHRU, &body)));
+            requests.extend(HEADERS.map(|of_body| of_body(names::code::STP_PASSTHRU, &body)));
         }
     }
     let medium = random.bytes(adapter.medium_length());

@@ -1,27 +1,17 @@
-//! Disks held at spin-up as W-205 has them, on both implementations: one that is read, released or disabled, code 21 refused, what is
-//! shown, and the holds of whole runs. What each gets is worked out here, not by the model alone.
+//! Disks held at spin-up as W-205 has them, on both implementations: one that is read, released or disabled, code 21 refused, and what is
+//! shown. What each gets is worked out here, not by the model alone.
 
 use differential::adapter::Adapter;
-use differential::case::Case;
-use differential::generate;
 use differential::names::{
     ata, call, code, header, phy, phy_info, rate, set_phy_info as info, state, status, stp, DISK,
     ENTITY, NOT_GIVEN, SECTOR,
 };
 use differential::pair::Pair;
 use differential::random::Random;
-use differential::request::{first, fis, linux, Request};
-use differential::session::Framing;
-use differential::side::{return_code, CALLS, SIDES};
-use differential::spinup::{check, check_each};
+use differential::request::{fis, OfBody, Request, HEADERS};
+use differential::side::return_code;
 use differential::text::{FULL, LEVELS};
-use differential::two_runs::{Level, Start};
 use differential::wire::{put_word, word};
-
-type OfBody = fn(u32, &[u8]) -> Request;
-
-/// A sound header before a body, each.
-const HEADERS: [OfBody; 2] = [first::of_body, linux::of_body];
 
 /// The phy reset problem counter.
 const PROBLEM: usize = phy::COUNTERS + 12;
@@ -57,7 +47,7 @@ impl Asked {
         }
     }
 
-    /// The return code of a request, the reply's body, and whether the state stays.
+    /// The return code of a request and the reply's body; the medium stays.
     fn asks(&mut self, control: u32, body: &[u8]) -> (u32, Vec<u8>) {
         let request = (self.of_body)(control, body);
         let reply = self.pair.request(&request).unwrap();
@@ -314,52 +304,4 @@ fn what_is_shown_of_a_hold() {
         let reply = asked.reports(code::PHY_INFO, &[0x5A; phy_info::SIZE], status::SUCCESS);
         assert_eq!(reply, adapter.phy_info());
     }
-}
-
-/// In whole runs, of every side and at every level: a hold is the file's until a granted code 21 names its phy, and then 0 to the end; the
-/// rate 3 is never met without a hold.
-fn holds_in_runs(framing: Framing) {
-    let mut cleared = [0; 4];
-    for seed in 0..480 {
-        let random = &mut Random::new(seed);
-        let adapter = Adapter::sound(random);
-        let (file, medium) = (adapter.file(), random.bytes(adapter.medium_length()));
-        let requests = generate::requests_of(random, &adapter, 100, framing);
-        let number = LEVELS[seed as usize % 4];
-        let level = Level::of_number(random, number);
-        let case = Case::of_requests(seed, &level.text, &file, &medium, &requests);
-        for side in SIDES {
-            cleared[usize::from(number)] += check(&case, &side.run(&case))
-                .unwrap_or_else(|what| panic!("seed {seed}, {side:?}: {what}"));
-        }
-        let start = Start {
-            seed,
-            file: &file,
-            medium: &medium,
-            requests: &requests,
-        };
-        for side in CALLS {
-            check_each(side, &start, &level)
-                .unwrap_or_else(|what| panic!("seed {seed}, {side:?}: {what}"));
-        }
-    }
-    let right = cleared.iter().enumerate().all(|(level, &count)| {
-        let clears = framing == Framing::Both || level == usize::from(FULL);
-        if clears {
-            count > 50
-        } else {
-            count == 0
-        }
-    });
-    assert!(right, "{cleared:?}");
-}
-
-#[test]
-fn holds_in_runs_of_the_first_header() {
-    holds_in_runs(Framing::First);
-}
-
-#[test]
-fn holds_in_runs_of_both_headers() {
-    holds_in_runs(Framing::Both);
 }

@@ -9,14 +9,9 @@ use differential::names::{
 };
 use differential::pair::Pair;
 use differential::random::Random;
-use differential::request::{first, linux, Request};
+use differential::request::HEADERS;
 use differential::text::FULL;
 use differential::wire::put_word;
-
-type OfBody = fn(u32, &[u8]) -> Request;
-
-/// A sound header before a body, each.
-const HEADERS: [OfBody; 2] = [first::of_body, linux::of_body];
 
 /// Every type of device: its type, its target protocols, and whether it is a SATA phy's.
 const DEVICES: [(u8, u8, bool); 8] = [
@@ -67,18 +62,6 @@ fn may_have(device: (u8, u8, bool), rule: u8, hold: u8, negotiated: u8) -> bool 
     may_hold && (negotiated == 1 || negotiated == link)
 }
 
-/// Both sides open the file with this number, over a state of other bytes: the adapter's state, or the zero state.
-fn opens(what: &str, adapter: &Adapter, file: &[u8], number: u32) {
-    let medium = vec![0; adapter.medium_length()];
-    let mut pair = Pair::of(&[0xA5; state::SIZE], &medium);
-    assert_eq!(pair.open(b"CSMI=Full;", file), Ok(number), "{what}");
-    let right = match number {
-        call::DONE => pair.state() == adapter.state(FULL),
-        _ => *pair.state() == [0; state::SIZE],
-    };
-    assert!(right, "{what}: the state");
-}
-
 /// Code 20 with both headers: all get 107, or all show the phys' entities. Nothing is altered.
 fn state_gives(what: &str, adapter: &Adapter, state: &[u8], number: u32) {
     let medium = vec![0; adapter.medium_length()];
@@ -109,8 +92,9 @@ fn phy_gives(adapter: &mut Adapter, n: usize, hold: u8, negotiated: u8, sound: b
     } else {
         [call::COUNT_OR_FIELD, call::STATE]
     };
-    opens(&what, adapter, &adapter.file(), file);
-    state_gives(&what, adapter, &adapter.state(FULL), state);
+    let (medium, accepted) = (vec![0; adapter.medium_length()], adapter.state(FULL));
+    Pair::opens(&what, &adapter.file(), &medium, file, &accepted);
+    state_gives(&what, adapter, &accepted, state);
 }
 
 /// Every device at all rates, with each hold and each negotiated rate that the rules tell from others, fixed or not.
@@ -166,14 +150,15 @@ fn every_byte_of_a_phy_block_from_105_on_is_104() {
     let random = &mut Random::new(3);
     for p in [1, 4] {
         let adapter = Adapter::of_counts(random, p, 3);
+        let medium = vec![0; adapter.medium_length()];
         for (n, offset) in (0..p).flat_map(|n| (105..CHECK).map(move |offset| (n, offset))) {
             for byte in [1, 0x80, random.other_than(0)] {
                 let mut file = adapter.file();
                 file[file::phy_at(n) + offset] = byte;
                 let what = format!("phy {n}, byte {offset}");
-                opens(&what, &adapter, &file, call::BLOCK_CHECK);
+                Pair::opens(&what, &file, &medium, call::BLOCK_CHECK, &[]);
                 seal(&mut file);
-                opens(&what, &adapter, &file, call::COUNT_OR_FIELD);
+                Pair::opens(&what, &file, &medium, call::COUNT_OR_FIELD, &[]);
             }
         }
     }
@@ -202,12 +187,13 @@ fn a_hold_comes_after_the_checks_and_before_the_rows() {
         let mut adapter = Adapter::of_counts(random, 3, 9);
         adapter.rows[4][..row::OS].copy_from_slice(&[7; row::OS]);
         adapter.rows[5][..row::OS].copy_from_slice(&[7; row::OS]);
-        opens("rows", &adapter, &adapter.file(), call::SHARED_ROW);
+        let short = vec![0; adapter.medium_length() - 1];
+        Pair::opens("rows", &adapter.file(), &short, call::SHARED_ROW, &[]);
         adapter.phys[random.below(3)].bytes[phy::SPINUP_HOLD] = random.within(2, 255) as u8;
         let mut file = adapter.file();
-        opens("hold", &adapter, &file, call::COUNT_OR_FIELD);
+        Pair::opens("hold", &file, &short, call::COUNT_OR_FIELD, &[]);
         let block = random.below(file.len() / BLOCK);
         file[block * BLOCK + CHECK] ^= 1;
-        opens("check", &adapter, &file, call::BLOCK_CHECK);
+        Pair::opens("check", &file, &short, call::BLOCK_CHECK, &[]);
     }
 }

@@ -7,7 +7,7 @@ mod spinup;
 use super::*;
 use model::codes::control;
 use model::layout::file::{self, BLOCK, CHECK};
-use model::layout::{entity, header, set_phy_info, state as at, DISK};
+use model::layout::{entity, header, linux_header, set_phy_info, state as at, DISK};
 
 const OTHER: u8 = 0x5A;
 /// The rates of the phy: minimum and maximum, programmed and hardware.
@@ -66,11 +66,43 @@ fn phy(state: &mut [u8; STATE_SIZE]) -> &mut [u8] {
     &mut state[at::PHYS..]
 }
 
+/// A request under the first header, other bytes where its header is not read.
+fn first(control: u32, signature: &[u8; 8], body: &[u8]) -> Vec<u8> {
+    let mut buffer = vec![OTHER; header::SIZE];
+    put(&mut buffer, header::HEADER_LENGTH, header::SIZE as u32);
+    buffer[header::SIGNATURE..header::TIMEOUT].copy_from_slice(signature);
+    put(&mut buffer, header::CONTROL_CODE, control);
+    put(&mut buffer, header::LENGTH, body.len() as u32);
+    buffer.extend(body);
+    buffer
+}
+
+/// The same under the Linux header, where the code stands beside it.
+fn under_linux(body: &[u8]) -> Vec<u8> {
+    let mut buffer = vec![OTHER; linux_header::SIZE];
+    let length = linux_header::SIZE + body.len();
+    put(&mut buffer, linux_header::LENGTH, length as u32);
+    buffer[linux_header::DIRECTION..linux_header::IGNORED].fill(0);
+    buffer.extend(body);
+    buffer
+}
+
+/// The body of a code 21: phy 0 disabled, 3.0 Gb/s alone, class 2.
+const DISABLE: [u8; set_phy_info::SIZE] = [0, 1, 9, 9, 2, 0, 0, 0];
+
+/// The file's state at a level after it.
+fn disabled(level: u8) -> [u8; STATE_SIZE] {
+    let mut state = state(level);
+    phy(&mut state)[entity::SIGNAL_CLASS] = 2;
+    phy(&mut state)[entity::NEGOTIATED..=entity::MAXIMUM].copy_from_slice(&[1, 0x98, 0x99]);
+    state
+}
+
 #[test]
 fn an_opening_writes_the_whole_state() {
-    let mut held = [OTHER; STATE_SIZE];
-    assert_eq!(open(b"CSMI=Full;", &file(), &[0; DISK], &mut held), 0);
-    assert_eq!(held, state(3));
+    let mut lent = [OTHER; STATE_SIZE];
+    assert_eq!(open(b"CSMI=Full;", &file(), &[0; DISK], &mut lent), 0);
+    assert_eq!(lent, state(3));
 }
 
 #[test]
@@ -93,49 +125,41 @@ fn a_state_of_another_length_is_107_and_stays() {
         STATE_SIZE + 1,
         2 * STATE_SIZE,
     ] {
-        let mut held = vec![OTHER; length];
+        let mut lent = vec![OTHER; length];
         let (mut medium, mut buffer) = ([0; DISK], [OTHER; 40]);
-        assert_eq!(open(b"", &file(), &medium, &mut held), 107);
-        assert_eq!(open(b"CSMI=full;", &[], &[], &mut held), 107);
-        assert_eq!(request(&mut held, &mut medium, &mut buffer), 107);
-        assert_eq!(request(&mut held, &mut [], &mut []), 107);
-        assert_eq!(held, vec![OTHER; length]);
+        assert_eq!(open(b"", &file(), &medium, &mut lent), 107);
+        assert_eq!(open(b"CSMI=full;", &[], &[], &mut lent), 107);
+        assert_eq!(request(&mut lent, &mut medium, &mut buffer), 107);
+        assert_eq!(request(&mut lent, &mut [], &mut []), 107);
+        assert_eq!(lent, vec![OTHER; length]);
         assert!(medium == [0; DISK] && buffer == [OTHER; 40]);
     }
 }
 
 #[test]
 fn the_numbers_of_a_request_in_their_order() {
-    let (mut held, mut medium) = (state(4), [0; DISK]);
-    assert_eq!(request(&mut held, &mut [], &mut []), 107);
-    held = state(3);
-    assert_eq!(request(&mut held, &mut medium[1..], &mut []), 106);
+    let (mut lent, mut medium) = (state(4), [0; DISK]);
+    assert_eq!(request(&mut lent, &mut [], &mut []), 107);
+    lent = state(3);
+    assert_eq!(request(&mut lent, &mut medium[1..], &mut []), 106);
     assert_eq!(
-        request(&mut held, &mut medium, &mut [OTHER; header::SIZE - 1]),
+        request(&mut lent, &mut medium, &mut [OTHER; header::SIZE - 1]),
         100
     );
     let mut buffer = [0; header::SIZE];
-    assert_eq!(request(&mut held, &mut medium, &mut buffer), 0);
+    assert_eq!(request(&mut lent, &mut medium, &mut buffer), 0);
     // HeaderLength is 0, which is return code 3
-    assert_eq!((buffer[header::RETURN_CODE], held), (3, state(3)));
+    assert_eq!((buffer[header::RETURN_CODE], lent), (3, state(3)));
 }
 
 #[test]
 fn a_request_changes_the_state_in_place() {
-    let (mut held, mut medium) = (state(3), [0; DISK]);
-    let mut buffer = [0; header::SIZE + set_phy_info::SIZE];
-    buffer[header::HEADER_LENGTH] = header::SIZE as u8;
-    buffer[header::SIGNATURE..header::TIMEOUT].copy_from_slice(b"CSMISAS\0");
-    buffer[header::CONTROL_CODE] = control::SET_PHY_INFO as u8;
-    buffer[header::LENGTH] = set_phy_info::SIZE as u8;
-    // phy 0 disabled, 3.0 Gb/s alone, class 2
-    buffer[header::SIZE..][..5].copy_from_slice(&[0, 1, 9, 9, 2]);
-    assert_eq!(request(&mut held, &mut medium, &mut buffer), 0);
-    let mut expected = state(3);
-    phy(&mut expected)[entity::SIGNAL_CLASS] = 2;
-    phy(&mut expected)[entity::NEGOTIATED..=entity::MAXIMUM].copy_from_slice(&[1, 0x98, 0x99]);
-    let code = &buffer[header::RETURN_CODE..header::LENGTH];
-    assert_eq!((code, held), (&[0; 4][..], expected));
+    let (mut lent, mut medium) = (state(3), [0; DISK]);
+    let mut buffer = first(control::SET_PHY_INFO, b"CSMISAS\0", &DISABLE);
+    let mut reply = buffer.clone();
+    put(&mut reply, header::RETURN_CODE, 0);
+    assert_eq!(request(&mut lent, &mut medium, &mut buffer), 0);
+    assert_eq!((buffer, lent), (reply, disabled(3)));
 }
 
 #[test]

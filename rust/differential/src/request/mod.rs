@@ -57,6 +57,12 @@ impl Request {
     }
 }
 
+/// A request of a control code and a body.
+pub type OfBody = fn(u32, &[u8]) -> Request;
+
+/// A sound header before a body, each.
+pub const HEADERS: [OfBody; 2] = [first::of_body, linux::of_body];
+
 /// A code, the passthrough and the change of a phy more often than the others.
 pub fn any_code(random: &mut Random) -> u32 {
     match random.below(3) {

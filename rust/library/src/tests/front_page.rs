@@ -1,32 +1,13 @@
 //! Codes 2, 3 and 30 under both headers, and the places of the tables that they show.
 
 use super::*;
-use model::layout::linux_header as linux;
 
 /// A control code, its signature, and where a state has what it shows.
-const PAGES: [(u8, &[u8; 8], usize, usize); 3] = [
+const PAGES: [(u32, &[u8; 8], usize, usize); 3] = [
     (2, b"CSMIALL\0", CONTROLLER, CONTROLLER_SIZE),
     (3, b"CSMIALL\0", STATUS, STATUS_SIZE),
     (30, b"CSMISAS\0", CONNECTOR, STATE_SIZE - CONNECTOR),
 ];
-
-/// A request under the first header, its body full of other bytes.
-fn first(control: u8, signature: &[u8; 8], size: usize) -> Vec<u8> {
-    let mut buffer = vec![OTHER; header::SIZE + size];
-    put(&mut buffer, header::HEADER_LENGTH, header::SIZE as u32);
-    buffer[header::SIGNATURE..header::TIMEOUT].copy_from_slice(signature);
-    put(&mut buffer, header::CONTROL_CODE, control.into());
-    put(&mut buffer, header::LENGTH, size as u32);
-    buffer
-}
-
-/// The same under the Linux header, where the code stands beside it.
-fn under_linux(size: usize) -> Vec<u8> {
-    let mut buffer = vec![OTHER; linux::SIZE + size];
-    put(&mut buffer, linux::LENGTH, (linux::SIZE + size) as u32);
-    buffer[linux::DIRECTION..linux::IGNORED].fill(0);
-    buffer
-}
 
 /// The reply: its return code, and the part of the state where it is 0.
 fn replied(sent: &[u8], code_at: usize, code: u32, body_at: usize, shown: &[u8]) -> Vec<u8> {
@@ -42,23 +23,28 @@ fn replied(sent: &[u8], code_at: usize, code: u32, body_at: usize, shown: &[u8])
 fn a_reply_is_a_part_of_the_state() {
     for level in 0..=3 {
         for (control, signature, at, size) in PAGES {
-            let (mut held, mut medium) = (state(level), [0; DISK]);
+            let (mut lent, mut medium) = (state(level), [0; DISK]);
             let shown = &state(level)[at..at + size];
-            let sent = first(control, signature, size);
+            let sent = first(control, signature, &vec![OTHER; size]);
             let mut buffer = sent.clone();
-            assert_eq!(request(&mut held, &mut medium, &mut buffer), 0);
+            assert_eq!(request(&mut lent, &mut medium, &mut buffer), 0);
             let code = if level == 0 { 4 } else { 0 };
             let expected = replied(&sent, header::RETURN_CODE, code, header::SIZE, shown);
             assert_eq!(buffer, expected, "code {control}, level {level}");
 
-            let sent = under_linux(size);
+            let sent = under_linux(&vec![OTHER; size]);
             let mut buffer = sent.clone();
-            let control = control.into();
-            let number = request_linux(&mut held, &mut medium, control, &mut buffer);
+            let number = request_linux(&mut lent, &mut medium, control, &mut buffer);
             assert_eq!(number, 0);
-            let expected = replied(&sent, linux::RETURN_CODE, 0, linux::SIZE, shown);
+            let expected = replied(
+                &sent,
+                linux_header::RETURN_CODE,
+                0,
+                linux_header::SIZE,
+                shown,
+            );
             assert_eq!(buffer, expected, "code {control}, level {level}");
-            assert!(held == state(level) && medium == [0; DISK]);
+            assert!(lent == state(level) && medium == [0; DISK]);
         }
     }
 }
@@ -67,22 +53,22 @@ fn a_reply_is_a_part_of_the_state() {
 fn another_pinout_and_a_second_connector_are_107() {
     let connector = CONNECTOR + CONNECTOR_SIZE;
     for at in [CONNECTOR + CONNECTOR_PINOUT + 3, connector, STATE_SIZE - 1] {
-        let mut held = state(3);
-        held[at] ^= 1;
-        let before = held;
-        assert_eq!(request(&mut held, &mut [0; DISK], &mut []), 107);
-        assert_eq!(request_linux(&mut held, &mut [0; DISK], 2, &mut []), 107);
-        assert_eq!(held, before);
+        let mut lent = state(3);
+        lent[at] ^= 1;
+        let before = lent;
+        assert_eq!(request(&mut lent, &mut [0; DISK], &mut []), 107);
+        assert_eq!(request_linux(&mut lent, &mut [0; DISK], 2, &mut []), 107);
+        assert_eq!(lent, before);
     }
 }
 
 /// A file that ends behind its rows, as it did before these codes were served.
 #[test]
 fn a_file_of_the_old_layout_is_102() {
-    let mut held = [OTHER; STATE_SIZE];
+    let mut lent = [OTHER; STATE_SIZE];
     let old = &file()[..2 * BLOCK];
-    assert_eq!(open(b"CSMI=Full;", old, &[0; DISK], &mut held), 102);
-    assert_eq!(held, [0; STATE_SIZE]);
+    assert_eq!(open(b"CSMI=Full;", old, &[0; DISK], &mut lent), 102);
+    assert_eq!(lent, [0; STATE_SIZE]);
 }
 
 /// Constants with their names.

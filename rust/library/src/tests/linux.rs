@@ -1,30 +1,17 @@
 //! Requests with the Linux header, by the call and in a session of both headers.
 
 use super::*;
-use model::layout::linux_header as linux;
 
-/// A code 21 behind a Linux header: phy 0 disabled, 3.0 Gb/s alone, class 2.
-fn set_phy_info() -> [u8; linux::SIZE + set_phy_info::SIZE] {
-    let mut buffer = [0; linux::SIZE + set_phy_info::SIZE];
-    buffer[linux::LENGTH] = buffer.len() as u8;
-    buffer[linux::RETURN_CODE..linux::TIMEOUT].fill(OTHER);
-    buffer[linux::SIZE..][..5].copy_from_slice(&[0, 1, 9, 9, 2]);
-    buffer
+/// A code 21 behind a Linux header.
+fn set_phy_info() -> Vec<u8> {
+    under_linux(&DISABLE)
 }
 
 /// The reply, with this return code.
-fn replied(code: u8) -> [u8; linux::SIZE + set_phy_info::SIZE] {
+fn replied(code: u32) -> Vec<u8> {
     let mut reply = set_phy_info();
-    reply[linux::RETURN_CODE..linux::TIMEOUT].copy_from_slice(&[code, 0, 0, 0]);
+    put(&mut reply, linux_header::RETURN_CODE, code);
     reply
-}
-
-/// The state of a level after it.
-fn changed(level: u8) -> [u8; STATE_SIZE] {
-    let mut expected = state(level);
-    phy(&mut expected)[entity::SIGNAL_CLASS] = 2;
-    phy(&mut expected)[entity::NEGOTIATED..=entity::MAXIMUM].copy_from_slice(&[1, 0x98, 0x99]);
-    expected
 }
 
 /// A request of a session of both headers.
@@ -45,57 +32,53 @@ fn ran(session: &[u8]) -> (usize, Vec<u8>, [u8; 3 * record::SIZE]) {
 #[test]
 fn a_linux_request_is_served_at_every_level() {
     for level in 0..=3 {
-        let (mut held, mut medium, mut buffer) = (state(level), [0; DISK], set_phy_info());
+        let (mut lent, mut medium, mut buffer) = (state(level), [0; DISK], set_phy_info());
         let code = control::SET_PHY_INFO;
-        assert_eq!(request_linux(&mut held, &mut medium, code, &mut buffer), 0);
-        assert_eq!((buffer, held), (replied(0), changed(level)));
+        assert_eq!(request_linux(&mut lent, &mut medium, code, &mut buffer), 0);
+        assert_eq!((buffer, lent), (replied(0), disabled(level)));
     }
 }
 
 #[test]
 fn the_answers_to_a_linux_request_in_their_order() {
-    let (mut held, mut medium) = (state(4), [0; DISK]);
-    assert_eq!(request_linux(&mut held, &mut [], 0, &mut []), 107);
-    held = state(0);
-    assert_eq!(request_linux(&mut held, &mut medium[1..], 0, &mut []), 106);
-    let mut short = [OTHER; linux::SIZE - 1];
-    assert_eq!(request_linux(&mut held, &mut medium, 0, &mut short), 100);
+    let (mut lent, mut medium) = (state(4), [0; DISK]);
+    assert_eq!(request_linux(&mut lent, &mut [], 0, &mut []), 107);
+    lent = state(0);
+    assert_eq!(request_linux(&mut lent, &mut medium[1..], 0, &mut []), 106);
+    let mut short = [OTHER; linux_header::SIZE - 1];
+    assert_eq!(request_linux(&mut lent, &mut medium, 0, &mut short), 100);
     let mut code_of = |control, change: fn(&mut [u8])| {
         let mut buffer = set_phy_info();
         change(&mut buffer);
         assert_eq!(
-            request_linux(&mut held, &mut medium, control, &mut buffer),
+            request_linux(&mut lent, &mut medium, control, &mut buffer),
             0
         );
-        assert_eq!(held, state(0));
-        buffer[linux::RETURN_CODE]
+        assert_eq!(lent, state(0));
+        buffer[linux_header::RETURN_CODE]
     };
     // Direction before the code, and the code before Length
-    assert_eq!(code_of(24, |buffer| buffer[linux::DIRECTION] = 2), 3);
-    assert_eq!(code_of(24, |buffer| buffer[linux::LENGTH] = 0), 2);
-    assert_eq!(code_of(21, |buffer| buffer[linux::LENGTH] += 1), 3);
+    assert_eq!(code_of(24, |buffer| buffer[linux_header::DIRECTION] = 2), 3);
+    assert_eq!(code_of(24, |buffer| buffer[linux_header::LENGTH] = 0), 2);
+    assert_eq!(code_of(21, |buffer| buffer[linux_header::LENGTH] += 1), 3);
 }
 
 #[test]
 fn a_state_of_another_length_is_107_to_a_linux_request() {
     for length in [0, 1, CONTROLLER, STATE_SIZE - 1, STATE_SIZE + 1] {
-        let mut held = vec![OTHER; length];
+        let mut lent = vec![OTHER; length];
         let (mut medium, mut buffer) = ([0; DISK], set_phy_info());
-        assert_eq!(request_linux(&mut held, &mut medium, 21, &mut buffer), 107);
-        assert_eq!((held, buffer), (vec![OTHER; length], set_phy_info()));
+        assert_eq!(request_linux(&mut lent, &mut medium, 21, &mut buffer), 107);
+        assert_eq!((lent, buffer), (vec![OTHER; length], set_phy_info()));
     }
 }
 
 /// With the first header denied, with the other served; each return code stands in its own place.
 #[test]
 fn a_session_of_both_headers() {
-    let mut first = [0; header::SIZE + set_phy_info::SIZE];
-    first[header::HEADER_LENGTH] = header::SIZE as u8;
-    first[header::SIGNATURE..header::TIMEOUT].copy_from_slice(b"CSMISAS\0");
-    first[header::CONTROL_CODE] = control::SET_PHY_INFO as u8;
-    first[header::LENGTH] = set_phy_info::SIZE as u8;
-    let mut denied = first;
-    denied[header::RETURN_CODE] = 4;
+    let first = first(control::SET_PHY_INFO, b"CSMISAS\0", &DISABLE);
+    let mut denied = first.clone();
+    put(&mut denied, header::RETURN_CODE, 4);
     let session = [
         framed(prefix::FIRST, 0, &first),
         framed(prefix::LINUX, 21, &set_phy_info()),

@@ -1,7 +1,7 @@
 //! A disk held at spin-up: in a file, in a state, and released under both headers; and the places of a phy's bytes.
 
 use super::*;
-use model::layout::{linux_header as linux, phy as at_phy, ENTITY};
+use model::layout::{phy as at_phy, ENTITY};
 
 const SATA_SPINUP_HOLD: u8 = 3;
 
@@ -59,31 +59,12 @@ fn a_hold_in_a_file_is_carried_on_a_sata_phy_and_else_104() {
 fn a_wrong_hold_in_a_state_is_107() {
     let mut wrong = [state(3), with_disk(3, 1, 9), with_disk(3, 2, 1)];
     phy(&mut wrong[0])[at_phy::SPINUP_HOLD] = 1;
-    for mut held in wrong {
-        let before = held;
-        assert_eq!(request(&mut held, &mut [0; DISK], &mut []), 107);
-        assert_eq!(request_linux(&mut held, &mut [0; DISK], 20, &mut []), 107);
-        assert_eq!(held, before);
+    for mut lent in wrong {
+        let before = lent;
+        assert_eq!(request(&mut lent, &mut [0; DISK], &mut []), 107);
+        assert_eq!(request_linux(&mut lent, &mut [0; DISK], 20, &mut []), 107);
+        assert_eq!(lent, before);
     }
-}
-
-/// A code 21 to the phy under the first header: enabled or disabled, and nothing else changed.
-fn set_phy_info(negotiated: u8) -> [u8; header::SIZE + set_phy_info::SIZE] {
-    let mut buffer = [0; header::SIZE + set_phy_info::SIZE];
-    buffer[header::HEADER_LENGTH] = header::SIZE as u8;
-    buffer[header::SIGNATURE..header::TIMEOUT].copy_from_slice(b"CSMISAS\0");
-    buffer[header::CONTROL_CODE] = control::SET_PHY_INFO as u8;
-    buffer[header::LENGTH] = set_phy_info::SIZE as u8;
-    buffer[header::SIZE + set_phy_info::NEGOTIATED] = negotiated;
-    buffer
-}
-
-/// The same under the Linux header.
-fn set_phy_info_linux(negotiated: u8) -> [u8; linux::SIZE + set_phy_info::SIZE] {
-    let mut buffer = [0; linux::SIZE + set_phy_info::SIZE];
-    buffer[linux::LENGTH] = buffer.len() as u8;
-    buffer[linux::SIZE + set_phy_info::NEGOTIATED] = negotiated;
-    buffer
 }
 
 /// To 9 or, disabled, to 1; a denied one leaves the hold.
@@ -92,19 +73,21 @@ fn a_granted_code_21_clears_the_hold() {
     for (level, negotiated, left) in [(0, 0, 9), (0, 1, 1), (3, 0, 9), (3, 1, 1)] {
         let before = with_disk(level, 1, SATA_SPINUP_HOLD);
         let after = with_disk(level, 0, left);
-        let (mut held, mut buffer) = (before, set_phy_info(negotiated));
-        assert_eq!(request(&mut held, &mut [0; DISK], &mut buffer), 0);
-        let denied = level == 0;
-        assert_eq!(
-            buffer[header::RETURN_CODE],
-            if denied { 4 } else { 0 },
-            "{level}"
-        );
-        assert_eq!(held, if denied { before } else { after });
+        // the phy enabled or disabled, and nothing else changed
+        let body = [0, negotiated, 0, 0, 0, 0, 0, 0];
+        let mut lent = before;
+        let mut buffer = first(control::SET_PHY_INFO, b"CSMISAS\0", &body);
+        let mut reply = buffer.clone();
+        let (code, expected) = if level == 0 { (4, before) } else { (0, after) };
+        put(&mut reply, header::RETURN_CODE, code);
+        assert_eq!(request(&mut lent, &mut [0; DISK], &mut buffer), 0);
+        assert_eq!((buffer, lent), (reply, expected), "{level}, {negotiated}");
 
-        let (mut held, mut buffer) = (before, set_phy_info_linux(negotiated));
-        assert_eq!(request_linux(&mut held, &mut [0; DISK], 21, &mut buffer), 0);
-        assert_eq!((buffer, held), (set_phy_info_linux(negotiated), after));
+        let (mut lent, mut buffer) = (before, under_linux(&body));
+        let mut reply = buffer.clone();
+        put(&mut reply, linux_header::RETURN_CODE, 0);
+        assert_eq!(request_linux(&mut lent, &mut [0; DISK], 21, &mut buffer), 0);
+        assert_eq!((buffer, lent), (reply, after), "{level}, {negotiated}");
     }
 }
 
