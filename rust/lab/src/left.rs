@@ -187,7 +187,7 @@ mod tests {
 
     /// The byte of a spin-up hold, on any phy, and the rate that goes with it.
     #[test]
-    fn spin_up_holds() {
+    fn spinup_holds() {
         for n in [0, 1, 31] {
             let mut held = vec![0; STATE_SIZE];
             (held[phy_at(n) + 29], held[phy_at(n) + 104]) = (3, 1);

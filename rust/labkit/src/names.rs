@@ -65,12 +65,13 @@ const CALL_NUMBERS: [(u32, &str); 8] = [
 /// The levels from 0 on.
 pub const LEVELS: [&str; 4] = ["None", "Restricted", "Limited", "Full"];
 
-/// The negotiated rate of a phy held at spin-up.
+/// The negotiated rate of a phy that is disabled, and of one held at spin-up.
+pub const DISABLED: u8 = 1;
 pub const SATA_SPINUP_HOLD: u8 = 3;
 
 const LINK_RATES: [(u32, &str); 6] = [
     (0, "unknown"),
-    (1, "disabled"),
+    (DISABLED as u32, "disabled"),
     (2, "failed"),
     (SATA_SPINUP_HOLD as u32, "spin-up hold"),
     (8, "1.5 Gb/s"),

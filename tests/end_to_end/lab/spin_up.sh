@@ -87,12 +87,30 @@ holds() {
     done
 }
 try "each spin-up hold on each kind of phy" holds
+# hold_rates: the rates of a disk that is held and of one that is not.
+hold_rates() {
+    local hold rate
+    dir=$(with hold_rates session.txt "get-phy-info\n") || return 1
+    for hold in 0 1; do
+        for rate in 0 1 2 3 4 8 9 255; do
+            echo "phy attached=sata spin-up-hold=$hold negotiated=$rate" >"$dir/adapter.txt"
+            case $hold,$rate in
+            0,1 | 0,9 | 1,1 | 1,3) marks 0 "mark: 0 of 1 differ" "$dir" && ! grep -q warning "$work/printed" ;;
+            0,3 | 1,*) no_mark "the opening refuses the adapter of adapter.txt: 104 count or field" "$dir" && grep -q "warning .*phy 0: the spin-up hold is $hold, and negotiated is $rate " "$work/printed" ;;
+            *) no_mark "the opening refuses the adapter of adapter.txt: 104 count or field" "$dir" && ! grep -q warning "$work/printed" ;;
+            esac || { echo "$hold $rate" && return 1; }
+        done
+    done
+}
+try "each negotiated rate with and without a hold" hold_rates
 kit_warns_of_hold() {
     echo "$1" >"$work/hold.txt"
     "$kit" adapter "$work/hold.txt" "$work/made" 2>"$work/errors" && diff <(echo "labkit: warning: $work/hold.txt: $2") "$work/errors"
 }
 try "labkit adapter warns of a held SAS device" kit_warns_of_hold "phy attached=sas spin-up-hold=1" "phy 0: the spin-up hold is 1, and no SATA disk is attached: the opening refuses it with 104"
 try "labkit adapter warns of another number" kit_warns_of_hold "phy attached=sata spin-up-hold=2" "phy 0: the spin-up hold is 2, neither 0 nor 1: the opening refuses it with 104"
+try "labkit adapter warns of a rate with a hold" kit_warns_of_hold "phy attached=sata spin-up-hold=1 negotiated=8" "phy 0: the spin-up hold is 1, and negotiated is 8 (1.5 Gb/s), where a held disk of these rates has 3 (spin-up hold) or 1 (disabled): the opening refuses it with 104"
+try "labkit adapter warns of a rate without a hold" kit_warns_of_hold "phy attached=sata negotiated=3" "phy 0: the spin-up hold is 0, and negotiated is 3 (spin-up hold), which a held disk alone has: the opening refuses it with 104"
 try "a hold that is no byte" bad_word "spin-up-hold: 256 is over 255" "phy spin-up-hold=256"
 
 # 5: descriptions and files

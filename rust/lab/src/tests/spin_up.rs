@@ -1,4 +1,5 @@
-//! Disks held at spin-up (W-205): a hold that one run alone releases is left different, and the report says so in every form.
+//! Disks held at spin-up (W-205): a hold that one run alone releases is left different, and the report says so in every form. And the
+//! kit's warnings are of what the opening refuses.
 
 use super::*;
 
@@ -114,4 +115,38 @@ fn a_hold_in_every_form_of_report() {
     ] {
         assert!(page.contains(row), "{page}");
     }
+}
+
+/// There is a warning where the opening refuses a hold, or a rate that does not go with it, and nowhere else.
+#[test]
+fn warnings_are_of_what_the_opening_refuses() {
+    let mut refused = 0;
+    for kind in [
+        "none",
+        "sata",
+        "sata highest=8",
+        "sata programmed-maximum=8 lowest=9",
+        "sata attached-target=FFh fixed=1",
+        "sas",
+        "edge attached-target=01h",
+        "fanout",
+    ] {
+        for (hold, rate) in [0, 1, 2, 255]
+            .into_iter()
+            .flat_map(|hold| (0..=255).map(move |rate| (hold, rate)))
+        {
+            let text = format!("phy attached={kind} spin-up-hold={hold} negotiated={rate}");
+            let file = labkit::adapter::parse(&text).unwrap();
+            let (medium, mut state) = ([0; 8192], [0; library::STATE_SIZE]);
+            let number = library::open(b"CSMI=Full;", &file, &medium, &mut state);
+            assert!(number == 0 || number == 104, "{text}: {number}");
+            let warned = labkit::adapter::warnings(&file, |_| false);
+            let of_hold = number == 104 && (hold != 0 || rate == 3);
+            assert_eq!(warned.len(), usize::from(of_hold), "{text}");
+            refused += usize::from(of_hold);
+        }
+    }
+    // two values of the byte on every phy, 1 on the four that are no SATA phys, and all but two rates of the four that are; without a
+    // hold the rate 3
+    assert_eq!(refused, 8 * 2 * 256 + 4 * 256 + 4 * 254 + 8);
 }

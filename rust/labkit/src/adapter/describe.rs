@@ -197,7 +197,7 @@ row address=5000C50000000002 lun=0001000000000000 host=1 path=2 target=3 os-lun=
 
     /// Every value of a phy's spin-up hold, with the check made good and with the check that another value had.
     #[test]
-    fn every_spin_up_hold_comes_back() {
+    fn every_spinup_hold_comes_back() {
         for kind in ["none", "sata", "sas", "edge", "fanout"] {
             for hold in 0..=255 {
                 let sealed =

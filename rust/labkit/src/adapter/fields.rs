@@ -56,7 +56,7 @@ pub const PHY: [Field; 37] = [
     byte("fixed", 101),
     byte("lowest", LOWEST),
     byte("highest", HIGHEST),
-    byte("spin-up-hold", SPIN_UP_HOLD),
+    byte("spin-up-hold", SPINUP_HOLD),
 ];
 
 pub const IDENTIFIER: usize = 20;
@@ -72,7 +72,7 @@ pub const SIGNATURE: usize = 80;
 pub const HELD: usize = 100;
 pub const LOWEST: usize = 102;
 pub const HIGHEST: usize = 103;
-pub const SPIN_UP_HOLD: usize = 104;
+pub const SPINUP_HOLD: usize = 104;
 
 /// A row; codes 27 and 28 carry the same fields.
 pub const ROW: [Field; 6] = [

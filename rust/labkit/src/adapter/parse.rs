@@ -204,7 +204,7 @@ mod tests {
     }
 
     #[test]
-    fn a_spin_up_hold_stands_in_byte_104() {
+    fn a_spinup_hold_stands_in_byte_104() {
         let free = parse("phy\nphy attached=sata\n").unwrap();
         let held = parse("phy\nphy attached=sata spin-up-hold=1\n").unwrap();
         let moved: Vec<usize> = (0..free.len())

@@ -82,9 +82,9 @@ fn named(name: &str) -> Field {
 }
 
 /// The negotiated rate for a description that names none: what the link rule gives, of a phy held at spin-up 3 in place of a rate (W-205).
-fn link_rule(block: &[u8]) -> u8 {
+pub fn link_rule(block: &[u8]) -> u8 {
     match rates_rule(block) {
-        8 | 9 if block[SPIN_UP_HOLD] == 1 => names::SATA_SPINUP_HOLD,
+        8 | 9 if block[SPINUP_HOLD] == 1 => names::SATA_SPINUP_HOLD,
         result => result,
     }
 }
@@ -210,7 +210,7 @@ mod tests {
 
     /// Whatever the byte is, on every kind of phy, negotiated as it may be.
     #[test]
-    fn every_spin_up_hold_and_back() {
+    fn every_spinup_hold_and_back() {
         for kind in [
             "attached=none",
             "attached=sata",
@@ -222,7 +222,7 @@ mod tests {
         ] {
             for (hold, rate) in (0..=255).flat_map(|hold| [0, 1, 2, 3, 8, 9].map(|r| (hold, r))) {
                 let said = block(&format!("phy {kind} negotiated={rate} spin-up-hold={hold}"));
-                assert_eq!((said[SPIN_UP_HOLD], said[NEGOTIATED]), (hold, rate));
+                assert_eq!((said[SPINUP_HOLD], said[NEGOTIATED]), (hold, rate));
                 assert_eq!(block(&to_words(&said, 2).join(" ")), said);
             }
         }

@@ -105,7 +105,7 @@ mod tests {
 
     /// The old layout had no spin-up hold; what stands in its byte is carried.
     #[test]
-    fn a_spin_up_hold_is_carried() {
+    fn a_spinup_hold_is_carried() {
         for hold in ["0", "1", "255"] {
             let text = format!("phy attached=sata spin-up-hold={hold}\nphy spin-up-hold={hold}\n");
             assert_eq!(upgrade(&old(&text)).unwrap(), parse(&text).unwrap());

@@ -1,10 +1,12 @@
 //! What document 01 leaves free and real consoles read all the same: a file that an opening accepts and that makes them behave
-//! oddly. And what an opening refuses: a pinout by its bits, a spin-up hold of what is no SATA disk. One line for each.
+//! oddly. And what an opening refuses: a pinout by its bits, a spin-up hold over 1 or of what is no SATA disk, a negotiated rate that does
+//! not go with the hold. One line for each.
 
 use super::fields::*;
+use super::phy::link_rule;
 use super::{connector_at, controller_at, BLOCK, CONNECTOR_BYTES, MOST_PHYS};
 use crate::named::mask;
-use crate::names::PINOUTS;
+use crate::names::{rate_words, DISABLED, PINOUTS, SATA_SPINUP_HOLD};
 
 /// An end device, as Attached and Identify say it.
 const END_DEVICE: u8 = 0x10;
@@ -69,7 +71,7 @@ fn about(block: &[u8], asked_ata: bool) -> [Option<String>; 4] {
         identify_type(block),
         attached_identifier(block),
         no_sata_bit(block, asked_ata),
-        spin_up_hold(block),
+        spinup_hold(block),
     ]
 }
 
@@ -98,15 +100,27 @@ fn no_sata_bit(block: &[u8], asked_ata: bool) -> Option<String> {
     })
 }
 
-/// A spin-up hold that is neither 0 nor 1, or one of a phy that is no SATA phy.
-fn spin_up_hold(block: &[u8]) -> Option<String> {
+/// A spin-up hold that is neither 0 nor 1, or one of a phy that is no SATA phy; a held disk with another negotiated rate than 1 and what
+/// the link rule gives; and a negotiated rate 3 without a hold.
+fn spinup_hold(block: &[u8]) -> Option<String> {
     let is_sata = block[ATTACHED_TYPE] == END_DEVICE && block[ATTACHED_TARGET] & SATA != 0;
-    let hold = block[SPIN_UP_HOLD];
+    let (hold, negotiated) = (block[SPINUP_HOLD], block[NEGOTIATED]);
+    let words = |rate: u8| rate_words(rate.into());
     let reason = match hold {
+        0 if negotiated == SATA_SPINUP_HOLD => format!(
+            "and negotiated is {}, which a held disk alone has",
+            words(negotiated)
+        ),
         0 => return None,
-        1 if is_sata => return None,
-        1 => "and no SATA disk is attached",
-        _ => "neither 0 nor 1",
+        1 if !is_sata => "and no SATA disk is attached".to_string(),
+        1 if [DISABLED, link_rule(block)].contains(&negotiated) => return None,
+        1 => format!(
+            "and negotiated is {}, where a held disk of these rates has {} or {}",
+            words(negotiated),
+            words(link_rule(block)),
+            words(DISABLED)
+        ),
+        _ => "neither 0 nor 1".to_string(),
     };
     Some(format!(
         "the spin-up hold is {hold}, {reason}: the opening refuses it with 104"
@@ -159,7 +173,7 @@ mod tests {
 
     /// Every value on every kind of phy.
     #[test]
-    fn spin_up_holds_that_an_opening_refuses() {
+    fn spinup_holds_that_an_opening_refuses() {
         for kind in ["none", "sata", "sas", "edge", "fanout"] {
             for hold in 0..=255 {
                 let found = warned(&format!("phy\nphy attached={kind} spin-up-hold={hold}"));
@@ -182,6 +196,45 @@ mod tests {
         let unlinked =
             "phy attached=sata spin-up-hold=1 negotiated=1\nphy attached=sata spin-up-hold=1 fixed=1";
         assert_eq!(warned(unlinked), [""; 0]);
+    }
+
+    /// Every negotiated rate with each hold, on every kind of phy, with what a held one has; rates that meet and rates that do not.
+    #[test]
+    fn negotiated_rates_that_do_not_go_with_a_hold() {
+        for (kind, held) in [
+            ("none", None),
+            ("sata", Some(3)),
+            ("sata highest=8", Some(3)),
+            ("sata programmed-maximum=8 lowest=9", Some(2)),
+            ("sata attached-target=FFh fixed=1", Some(3)),
+            ("sas", None),
+            ("edge attached-target=01h", None),
+            ("fanout", None),
+        ] {
+            for (hold, rate) in (0..3).flat_map(|hold| (0..=255).map(move |rate| (hold, rate))) {
+                let text = format!("phy attached={kind} spin-up-hold={hold} negotiated={rate}");
+                let sound = match hold {
+                    0 => rate != 3,
+                    1 => held.is_some_and(|link| rate == 1 || rate == link),
+                    _ => false,
+                };
+                assert_eq!(warned(&text).len(), usize::from(!sound), "{text}");
+            }
+        }
+        assert_eq!(
+            warned("phy attached=sata spin-up-hold=1 negotiated=9\nphy attached=sata negotiated=3"),
+            [
+                "phy 0: the spin-up hold is 1, and negotiated is 9 (3.0 Gb/s), where a held disk of these rates has 3 (spin-up hold) or \
+                 1 (disabled): the opening refuses it with 104",
+                "phy 1: the spin-up hold is 0, and negotiated is 3 (spin-up hold), which a held disk alone has: the opening refuses it with 104"
+            ]
+        );
+        // rates that do not meet
+        assert_eq!(
+            warned("phy attached=sata programmed-minimum=9 highest=8 spin-up-hold=1 negotiated=3"),
+            ["phy 0: the spin-up hold is 1, and negotiated is 3 (spin-up hold), where a held disk of these rates has 2 (failed) or \
+              1 (disabled): the opening refuses it with 104"]
+        );
     }
 
     #[test]
