@@ -2,7 +2,7 @@
 use mathlib.Core.Path.{_≡_, refl, sym, _∙_, ap}
 use mathlib.Core.Bool.{Bool, true, false, cond, _&&_, _||_, and-assoc}
 use mathlib.Core.List.{List, map}
-use Prim.Native.Nat.{ℕ, _<_, _≤_}
+use Prim.Native.Nat.{ℕ, _%_, _<_, _≤_}
 use native.Mathlib.Omega.{arith}
 use lib.Dec.{eqb, leb}
 use lib.ListN.{length}
@@ -16,7 +16,8 @@ use Rattle.wire.specs.Same.{sameBytes, allZero}
 use Rattle.phy.specs.declared.Phy.{Phy}
 use Rattle.phy.specs.declared.PhyIdentifier.{PhyIdentifier}
 use Rattle.phy.specs.Block.{countersAt, phyOf, zeroPhy}
-use Rattle.phy.specs.Entity.{attachedOf, noDevice, isSata}
+use Rattle.codes.specs.Codes.{endDevice}
+use Rattle.phy.specs.Entity.{byteOf, protocolsPlace, attachedOf, attachedType, noDevice, isSata}
 use Rattle.fields.specs.Rules.{isRate, inRange, rangeHolds, identifyHolds, ratesHold, emptyHolds, deviceHolds, attachedHold, heldSignatureHolds, spinupAllowed, fieldsHold, phyZero}
 
 -- ---- what the code finds
@@ -149,16 +150,32 @@ module _ (phy : Phy) where
   unfolding attachedHold
   device-attached r e q = q ∙ rw e (sym (and-assoc (deviceHolds phy) (leb (phy .held) 1) (heldSignatureHolds phy)))
 
-  -- bytes 101 and 104
-  pub fixed-failed : leb (phy .fixed) 1 ≡ false → false ≡ attachedHold phy && leb (phy .held) 1 && leb (phy .fixed) 1 && heldSignatureHolds phy && spinupAllowed phy
+  -- a signature held: a SATA device is one, and of a device its rates are left
+  sata-rest : attachedHold phy && isSata phy ≡ isSata phy && isRate (phy .lowest) && isRate (phy .highest) && leb (phy .lowest) (phy .highest)
+  unfolding isSata attachedHold noDevice deviceHolds
+  sata-rest =
+      by-bool (λ (t : Bool). isSata phy ≡ t → attachedHold phy && t ≡ t && isRate (phy .lowest) && isRate (phy .highest) && leb (phy .lowest) (phy .highest))
+      (λ p. let e : attachedType phy ≡ endDevice =
+      eqb-true (attachedType phy) endDevice (both-left (eqb (attachedType phy) endDevice) (eqb (byteOf phy protocolsPlace % 2) 1) p) in
+      rw (e, and-true) refl)
+      (λ _. rw and-false refl) (isSata phy) refl
+
+  pub sata-in-order : (r : Bool) → r ≡ isSata phy
+      → r && leb 8 (phy .lowest) && leb (phy .lowest) (phy .highest) && leb (phy .highest) 9 ≡ isSata phy && isRate (phy .lowest) && isRate (phy .highest) && leb (phy .lowest) (phy .highest)
+  sata-in-order r e = rw e (device-in-order (isSata phy) (phy .lowest) (phy .highest))
+
+  pub signed : (r : Bool) → leb (phy .fixed) 1 ≡ true → phy .held ≡ 1 → r ≡ isSata phy && isRate (phy .lowest) && isRate (phy .highest) && leb (phy .lowest) (phy .highest)
+      → r ≡ attachedHold phy && leb (phy .held) 1 && leb (phy .fixed) 1 && heldSignatureHolds phy
+  unfolding heldSignatureHolds
+  signed r e h q = q ∙ sym sata-rest ∙ rw (e, le-leb (phy .held) 1 (omega arith), eq-eqb (phy .held) 1 h, and-true, and-true) refl
+
+  -- byte 101
+  pub fixed-failed : leb (phy .fixed) 1 ≡ false → false ≡ attachedHold phy && leb (phy .held) 1 && leb (phy .fixed) 1 && heldSignatureHolds phy
   fixed-failed e = rw (e, and-false) refl
 
-  pub spinup-failed : spinupAllowed phy ≡ false → false ≡ attachedHold phy && leb (phy .held) 1 && leb (phy .fixed) 1 && heldSignatureHolds phy && spinupAllowed phy
-  spinup-failed e = rw (e, and-false) refl
-
-  pub both-passed : (r : Bool) → leb (phy .fixed) 1 ≡ true → spinupAllowed phy ≡ true → r ≡ attachedHold phy && leb (phy .held) 1 && heldSignatureHolds phy
-      → r ≡ attachedHold phy && leb (phy .held) 1 && leb (phy .fixed) 1 && heldSignatureHolds phy && spinupAllowed phy
-  both-passed r e f q = q ∙ rw (e, f, and-true, and-true) refl
+  pub fixed-passed : (r : Bool) → leb (phy .fixed) 1 ≡ true → r ≡ attachedHold phy && leb (phy .held) 1 && heldSignatureHolds phy
+      → r ≡ attachedHold phy && leb (phy .held) 1 && leb (phy .fixed) 1 && heldSignatureHolds phy
+  fixed-passed r e q = q ∙ rw (e, and-true) refl
 
 module _ (phy : Phy) (n : PhyIdentifier) (p : ℕ) where
   pub identify-failed : identifyHolds phy n p ≡ false → false ≡ fieldsHold phy n p

@@ -13,6 +13,7 @@ ghost use mathlib.Core.Path.{_≡_};
 ghost use mathlib.Core.Bool.{_&&_};
 ghost use lib.Dec.{leb};
 ghost use Rattle.wire.specs.Same.{allZero};
+ghost use Rattle.phy.specs.Entity.{isSata};
 ghost use Rattle.fields.specs.Rules.{isRate, inRange, identifyHolds, rangeHolds, ratesHold, emptyHolds, deviceHolds, attachedHold, heldSignatureHolds, spinupAllowed, fieldsHold};
 
 // A rate code: 1.5 or 3.0 Gb/s.
@@ -134,15 +135,35 @@ fn by_device_holds(phy: Phy) -> bool
     with_device_holds(phy)
 }
 
-// The same, and bytes 101 and 104.
+// The same of a phy that holds a signature: a SATA device is attached, and its rates are left to test.
+fn signed_holds(phy: Phy) -> bool
+    ensures { λ r. ⌜ r ≡ (isSata phy && isRate (phy .lowest) && isRate (phy .highest) && leb (phy .lowest) (phy .highest)) ⌝ }
+{
+    phy.is_sata()
+        & (codes::LINK_RATE_1_5 <= phy.lowest)
+        & (phy.lowest <= phy.highest)
+        & (phy.highest <= codes::LINK_RATE_3_0)
+}
+
+// And byte 101.
 fn attached_holds(phy: Phy) -> bool
-    ensures { λ r. ⌜ r ≡ (attachedHold phy && leb (phy .held) 1 && leb (phy .fixed) 1 && heldSignatureHolds phy && spinupAllowed phy) ⌝ }
+    ensures { λ r. ⌜ r ≡ (attachedHold phy && leb (phy .held) 1 && leb (phy .fixed) 1 && heldSignatureHolds phy) ⌝ }
 {
     if phy.fixed <= 1 {
-        if spinup_allowed(phy) {
-            return by_device_holds(phy);
+        if phy.held == 1 {
+            return signed_holds(phy);
         }
-        return false;
+        return by_device_holds(phy);
+    }
+    false
+}
+
+// And byte 104.
+fn attached_spinup_holds(phy: Phy) -> bool
+    ensures { λ r. ⌜ r ≡ (attachedHold phy && leb (phy .held) 1 && leb (phy .fixed) 1 && heldSignatureHolds phy && spinupAllowed phy) ⌝ }
+{
+    if attached_holds(phy) {
+        return spinup_allowed(phy);
     }
     false
 }
@@ -154,7 +175,7 @@ pub fn fields_hold(phy: Phy, n: PhyIdentifier, p: u8) -> bool
 {
     if identify_holds(phy, n, p) {
         if rates_hold(phy) {
-            return attached_holds(phy);
+            return attached_spinup_holds(phy);
         }
         return false;
     }

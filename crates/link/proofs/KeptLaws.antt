@@ -15,11 +15,11 @@ use Rattle.phy.proofs.KeptLaws.{Kept, Settings, kept-trans, settings-trans}
 use Rattle.phy.proofs.ChangedLaws.{kept-cleared, kept-raised, kept-negotiated, settings-cleared, settings-raised, settings-negotiated, negotiated-cleared, negotiated-raised, negotiated-now}
 use Rattle.fields.proofs.HoldLaws.{fields-kept}
 use Rattle.codes.specs.Codes.{phyDisabled, linkRateFailed}
-use Rattle.link.specs.Rule.{ruleOf, counted, reset, disabled, negotiatedHolds}
+use Rattle.link.specs.Rule.{plainRule, ruleOf, counted, reset, disabled, negotiatedHolds}
 
 -- the rule goes by what neither changes
 rule-kept : (a b : Phy) → Kept a b → Settings a b → ruleOf b ≡ ruleOf a
-unfolding ruleOf
+unfolding ruleOf plainRule
 rule-kept a b k s = cc
 
 -- what the code finds: the rate r of a phy, and the rate x that the rule gives it

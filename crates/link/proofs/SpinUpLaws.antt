@@ -1,21 +1,21 @@
 -- Where the link rule gives 3, and where the rule of the negotiated rate lets it stand (W-205). Assumes nothing.
-use mathlib.Core.Path.{_≡_, refl, sym, _∙_}
+use mathlib.Core.Path.{_≡_, refl, sym, _∙_, ap}
 use mathlib.Core.Logic.{_≢_}
 use mathlib.Core.Bool.{Bool, true, false, cond}
 use Prim.Native.Nat.{ℕ}
 use native.Mathlib.Omega.{arith}
 use native.Mathlib.Decide.{ℕ-discrete}
 use lib.Dec.{eqb}
-use borrow.Author.Tests.{eqb-true, ne-eqb}
+use borrow.Author.Tests.{eqb-true, eq-eqb, ne-eqb}
 use Rattle.laws.specs.Choice.{by-bool, either}
 use Rattle.codes.specs.Codes.{phyDisabled, sataSpinupHold, linkRate15, linkRate30}
 use Rattle.phy.specs.declared.Phy.{Phy}
 use Rattle.phy.specs.Entity.{attachedType, noDevice, negotiatedOf, programmedMinimum, programmedMaximum}
 use Rattle.phy.specs.Change.{released}
 use Rattle.fields.specs.Rules.{isRate}
-use Rattle.link.specs.Rule.{inBoth, ratesRule, waitingRate, spinupRate, ruleOf, negotiatedHolds}
+use Rattle.link.specs.Rule.{inBoth, ratesRule, plainRule, waitingRate, ruleOf, negotiatedHolds}
 
--- ---- two numbers
+-- ---- a rate
 
 -- the two ranges never give 3
 rates-never : (none : Bool) (minimum maximum lowest highest : ℕ) → ratesRule none minimum maximum lowest highest ≢ sataSpinupHold
@@ -26,51 +26,57 @@ rates-never none minimum maximum lowest highest =
     (either No (inBoth linkRate30 minimum maximum lowest highest) (λ e. omega arith)
     (either No (inBoth linkRate15 minimum maximum lowest highest) (λ e. omega arith) (λ e. omega arith)))
 
-module _ (hold rate : ℕ) where
-  -- so 3 comes of a hold and of a rate,
-  waits : rate ≢ sataSpinupHold → spinupRate hold rate ≡ sataSpinupHold → (hold ≡ 1) × (isRate rate ≡ true)
-  unfolding spinupRate waitingRate
-  waits n =
-      by-bool (λ (t : Bool). eqb hold 1 ≡ t → cond t (waitingRate rate) rate ≡ sataSpinupHold → (hold ≡ 1) × (isRate rate ≡ true))
-      (λ p. by-bool (λ (t : Bool). isRate rate ≡ t → cond t sataSpinupHold rate ≡ sataSpinupHold → (hold ≡ 1) × (isRate rate ≡ true))
-      (λ q _. (eqb-true hold 1 p, q)) (λ _ e. absurd (n e)) (isRate rate) refl)
-      (λ _ e. absurd (n e)) (eqb hold 1) refl
+-- and a rate that waits is none
+waiting-none : (rate : ℕ) → isRate (waitingRate rate) ≡ false
+unfolding waitingRate isRate
+waiting-none rate = by-bool (λ (t : Bool). isRate rate ≡ t → isRate (cond t sataSpinupHold rate) ≡ false) (λ _. refl) (λ p. p) (isRate rate) refl
 
-  -- these two give it,
-  shows : hold ≡ 1 → isRate rate ≡ true → spinupRate hold rate ≡ sataSpinupHold
-  unfolding spinupRate waitingRate
-  shows e q = rw (e, q) refl
-
-  -- and a hold leaves no rate
-  rateless : hold ≡ 1 → isRate (spinupRate hold rate) ≡ false
-  unfolding spinupRate waitingRate isRate
-  rateless e =
-      rw e (by-bool (λ (t : Bool). isRate rate ≡ t → isRate (cond t sataSpinupHold rate) ≡ false) (λ _. refl) (λ p. p) (isRate rate) refl)
+waiting-rate : (rate : ℕ) → rate ≢ sataSpinupHold → waitingRate rate ≡ sataSpinupHold → isRate rate ≡ true
+unfolding waitingRate
+waiting-rate rate n =
+    by-bool (λ (t : Bool). isRate rate ≡ t → cond t sataSpinupHold rate ≡ sataSpinupHold → isRate rate ≡ true) (λ p _. p) (λ _ e. absurd (n e)) (isRate rate) refl
 
 -- ---- a phy
 
 module _ (phy : Phy) where
-  -- the rate of the two ranges, which is the rule's for a phy that is not held
-  abbrev plain : ℕ
-  plain = ratesRule (noDevice phy) (programmedMinimum phy) (programmedMaximum phy) (phy .lowest) (phy .highest)
+  plain-never : plainRule phy ≢ sataSpinupHold
+  unfolding plainRule
+  plain-never = rates-never (noDevice phy) (programmedMinimum phy) (programmedMaximum phy) (phy .lowest) (phy .highest)
 
-  plain-rule : ruleOf (released phy) ≡ plain
-  unfolding ruleOf spinupRate released noDevice attachedType programmedMinimum programmedMaximum
-  plain-rule = refl
+  -- the rule of a phy that is not held
+  rule-released : ruleOf (released phy) ≡ plainRule phy
+  unfolding ruleOf plainRule released noDevice attachedType programmedMinimum programmedMaximum
+  rule-released = refl
+
+  -- of one that is held
+  rule-held : phy .«spinup_hold» ≡ 1 → ruleOf phy ≡ waitingRate (plainRule phy)
+  unfolding ruleOf
+  rule-held e = ap (λ (t : Bool). cond t (waitingRate (plainRule phy)) (plainRule phy)) (eq-eqb (phy .«spinup_hold») 1 e)
+
+  -- what the code finds: the plain rate x, and what it makes of it
+  pub rule-now : (x r : ℕ) → phy .«spinup_hold» ≡ 1 → x ≡ plainRule phy → r ≡ waitingRate x → r ≡ ruleOf phy
+  rule-now x r e p q = q ∙ ap waitingRate p ∙ sym (rule-held e)
+
+  pub rule-plain : (r : ℕ) → (phy .«spinup_hold» ≡ 1 → ⊥) → r ≡ plainRule phy → r ≡ ruleOf phy
+  unfolding ruleOf
+  rule-plain r d q = q ∙ sym (ap (λ (t : Bool). cond t (waitingRate (plainRule phy)) (plainRule phy)) (ne-eqb (phy .«spinup_hold») 1 d))
 
   rule-waits : ruleOf phy ≡ sataSpinupHold → (phy .«spinup_hold» ≡ 1) × (isRate (ruleOf (released phy)) ≡ true)
   unfolding ruleOf
-  rule-waits e =
-      let w = waits (phy .«spinup_hold») plain (rates-never (noDevice phy) (programmedMinimum phy) (programmedMaximum phy) (phy .lowest) (phy .highest)) e in
-      (w .0, rw plain-rule (w .1))
+  rule-waits =
+      by-bool (λ (t : Bool). eqb (phy .«spinup_hold») 1 ≡ t → cond t (waitingRate (plainRule phy)) (plainRule phy) ≡ sataSpinupHold
+      → (phy .«spinup_hold» ≡ 1) × (isRate (ruleOf (released phy)) ≡ true))
+      (λ p e. (eqb-true (phy .«spinup_hold») 1 p, rw rule-released (waiting-rate (plainRule phy) plain-never e)))
+      (λ _ e. absurd (plain-never e)) (eqb (phy .«spinup_hold») 1) refl
 
   rule-shows : phy .«spinup_hold» ≡ 1 → isRate (ruleOf (released phy)) ≡ true → ruleOf phy ≡ sataSpinupHold
-  unfolding ruleOf
-  rule-shows e q = let h : isRate plain ≡ true = rw plain-rule at q in shows (phy .«spinup_hold») plain e h
+  unfolding waitingRate
+  rule-shows e q =
+      let h : isRate (plainRule phy) ≡ true = rw rule-released at q in
+      rule-held e ∙ rw h refl
 
   rule-rateless : phy .«spinup_hold» ≡ 1 → isRate (ruleOf phy) ≡ false
-  unfolding ruleOf
-  rule-rateless e = rateless (phy .«spinup_hold») plain e
+  rule-rateless e = rw (rule-held e) (waiting-none (plainRule phy))
 
   -- the same of the rate that stands there
   module _ (h : negotiatedHolds phy ≡ true) where

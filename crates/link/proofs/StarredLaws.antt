@@ -3,9 +3,9 @@ use mathlib.Core.Path.{refl}
 use Rattle.laws.specs.Cases.{Holds, All}
 use Rattle.phy.specs.Entity.{attachedType, noDevice, programmedMinimum, programmedMaximum}
 use Rattle.fields.specs.Rules.{isRate}
-use Rattle.link.specs.Rule.{inBoth, ratesRule, waitingRate, spinupRate, ruleOf}
+use Rattle.link.specs.Rule.{inBoth, ratesRule, plainRule, waitingRate, ruleOf}
 use Rattle.link.specs.Starred.{linkCases}
 
 pub linkStarred : All Holds linkCases
-unfolding ruleOf spinupRate waitingRate isRate ratesRule inBoth noDevice attachedType programmedMinimum programmedMaximum
+unfolding ruleOf plainRule waitingRate isRate ratesRule inBoth noDevice attachedType programmedMinimum programmedMaximum
 linkStarred = (refl, (refl, tt))

@@ -21,16 +21,15 @@ ratesRule none minimum maximum lowest highest =
     (cond (inBoth linkRate15 minimum maximum lowest highest) linkRate15
     linkRateFailed))
 
--- W-205: "a link rule result of 8 or 9 becomes 3, spin-up hold", of a phy whose byte 104 is 1
+unfoldable pub plainRule : Phy → ℕ
+plainRule phy = ratesRule (noDevice phy) (programmedMinimum phy) (programmedMaximum phy) (phy .lowest) (phy .highest)
+
+-- W-205: "For such a phy a link rule result of 8 or 9 becomes 3, spin-up hold"
 unfoldable pub waitingRate : ℕ → ℕ
 waitingRate rate = cond (isRate rate) sataSpinupHold rate
 
-unfoldable pub spinupRate : ℕ → ℕ → ℕ
-spinupRate hold rate = cond (eqb hold 1) (waitingRate rate) rate
-
 unfoldable pub ruleOf : Phy → ℕ
-ruleOf phy =
-    spinupRate (phy .«spinup_hold») (ratesRule (noDevice phy) (programmedMinimum phy) (programmedMaximum phy) (phy .lowest) (phy .highest))
+ruleOf phy = cond (eqb (phy .«spinup_hold») 1) (waitingRate (plainRule phy)) (plainRule phy)
 
 -- "A link reset that gives 2 adds one to the phy reset problem counter"
 unfoldable pub counted : Phy → ℕ → Phy

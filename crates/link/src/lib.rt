@@ -5,7 +5,7 @@ mod all;
 pub use all::all_negotiated;
 use phy::Phy;
 ghost use mathlib.Core.Path.{_≡_};
-ghost use Rattle.link.specs.Rule.{inBoth, ratesRule, waitingRate, spinupRate, ruleOf, counted, reset, disabled, negotiatedHolds};
+ghost use Rattle.link.specs.Rule.{inBoth, ratesRule, plainRule, waitingRate, ruleOf, counted, reset, disabled, negotiatedHolds};
 
 fn in_both(rate: u8, minimum: u8, maximum: u8, lowest: u8, highest: u8) -> bool
     ensures { λ r. ⌜ r ≡ inBoth rate minimum maximum lowest highest ⌝ }
@@ -28,6 +28,19 @@ fn rates_rule(none: bool, minimum: u8, maximum: u8, lowest: u8, highest: u8) -> 
     codes::LINK_RATE_FAILED
 }
 
+// The same of a phy, held at spin-up or not.
+fn plain_rule(phy: Phy) -> u8
+    ensures { λ r. ⌜ r ≡ plainRule phy ⌝ }
+{
+    rates_rule(
+        phy.no_device(),
+        phy.programmed_minimum(),
+        phy.programmed_maximum(),
+        phy.lowest,
+        phy.highest,
+    )
+}
+
 // A device that waits for its spin-up has no rate yet.
 fn waiting_rate(rate: u8) -> u8
     ensures { λ r. ⌜ r ≡ waitingRate rate ⌝ }
@@ -38,27 +51,14 @@ fn waiting_rate(rate: u8) -> u8
     rate
 }
 
-fn spinup_rate(hold: u8, rate: u8) -> u8
-    ensures { λ r. ⌜ r ≡ spinupRate hold rate ⌝ }
-{
-    if hold == 1 {
-        return waiting_rate(rate);
-    }
-    rate
-}
-
 // The rate that a link reset gives.
 pub fn rule(phy: Phy) -> u8
     ensures { λ r. ⌜ r ≡ ruleOf phy ⌝ }
 {
-    let rate = rates_rule(
-        phy.no_device(),
-        phy.programmed_minimum(),
-        phy.programmed_maximum(),
-        phy.lowest,
-        phy.highest,
-    );
-    spinup_rate(phy.spinup_hold, rate)
+    if phy.spinup_hold == 1 {
+        return waiting_rate(plain_rule(phy));
+    }
+    plain_rule(phy)
 }
 
 fn count_failure(phy: Phy, rate: u8) -> Phy
