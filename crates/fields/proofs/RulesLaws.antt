@@ -93,17 +93,25 @@ rates-in-order a b c d =
     let y = rate-bounds d (both-right (isRate a) (isRate d) e) in
     rw (le-leb 8 a (x .0), t .2, t .3, t .4, le-leb d 9 (y .1)) refl)
 
--- and two behind another test
-pub device-in-order : (s : Bool) (l h : ℕ) → s && leb 8 l && leb l h && leb h 9 ≡ s && isRate l && isRate h && leb l h
-device-in-order s l h =
-    same-truth (s && leb 8 l && leb l h && leb h 9) (s && isRate l && isRate h && leb l h)
-    (λ e. let t = four-hold s (leb 8 l) (leb l h) (leb h 9) e in
+-- and two
+pub device-in-order : (l h : ℕ) → leb 8 l && leb l h && leb h 9 ≡ isRate l && isRate h && leb l h
+device-in-order l h =
+    same-truth (leb 8 l && leb l h && leb h 9) (isRate l && isRate h && leb l h)
+    (λ e. let t = four-hold true (leb 8 l) (leb l h) (leb h 9) e in
     let x : 8 ≤ l = leb-true 8 l (t .1) in
     let y : l ≤ h = leb-true l h (t .2) in
     let z : h ≤ 9 = leb-true h 9 (t .3) in
-    rw (t .0, rate-by l x (omega arith), rate-by h (omega arith) z, t .2) refl)
-    (λ e. let t = four-hold s (isRate l) (isRate h) (leb l h) e in
-    rw (t .0, le-leb 8 l (rate-bounds l (t .1) .0), t .3, le-leb h 9 (rate-bounds h (t .2) .1)) refl)
+    rw (rate-by l x (omega arith), rate-by h (omega arith) z, t .2) refl)
+    (λ e. let t = four-hold true (isRate l) (isRate h) (leb l h) e in
+    rw (le-leb 8 l (rate-bounds l (t .1) .0), t .3, le-leb h 9 (rate-bounds h (t .2) .1)) refl)
+
+-- behind another test
+behind : (s a b c : Bool) → s && (a && b && c) ≡ s && a && b && c
+behind true a b c = refl
+behind false a b c = refl
+
+pub rates-behind : (s r : Bool) (l h : ℕ) → r ≡ isRate l && isRate h && leb l h → s && r ≡ s && isRate l && isRate h && leb l h
+rates-behind s r l h e = rw e (behind s (isRate l) (isRate h) (leb l h))
 
 -- ---- one group of rules behind the other
 
@@ -160,9 +168,9 @@ module _ (phy : Phy) where
       rw (e, and-true) refl)
       (λ _. rw and-false refl) (isSata phy) refl
 
-  pub sata-in-order : (r : Bool) → r ≡ isSata phy
-      → r && leb 8 (phy .lowest) && leb (phy .lowest) (phy .highest) && leb (phy .highest) 9 ≡ isSata phy && isRate (phy .lowest) && isRate (phy .highest) && leb (phy .lowest) (phy .highest)
-  sata-in-order r e = rw e (device-in-order (isSata phy) (phy .lowest) (phy .highest))
+  pub sata-rates : (x r : Bool) → x ≡ isSata phy → r ≡ isRate (phy .lowest) && isRate (phy .highest) && leb (phy .lowest) (phy .highest)
+      → x && r ≡ isSata phy && isRate (phy .lowest) && isRate (phy .highest) && leb (phy .lowest) (phy .highest)
+  sata-rates x r e q = rw e (rates-behind (isSata phy) r (phy .lowest) (phy .highest) q)
 
   pub signed : (r : Bool) → leb (phy .fixed) 1 ≡ true → phy .held ≡ 1 → r ≡ isSata phy && isRate (phy .lowest) && isRate (phy .highest) && leb (phy .lowest) (phy .highest)
       → r ≡ attachedHold phy && leb (phy .held) 1 && leb (phy .fixed) 1 && heldSignatureHolds phy

@@ -82,6 +82,15 @@ fn empty_holds(phy: Phy) -> bool
         & (phy.highest == 0)
 }
 
+// The device's rates: their order is enough, as above.
+fn device_rates_hold(phy: Phy) -> bool
+    ensures { λ r. ⌜ r ≡ (isRate (phy .lowest) && isRate (phy .highest) && leb (phy .lowest) (phy .highest)) ⌝ }
+{
+    (codes::LINK_RATE_1_5 <= phy.lowest)
+        & (phy.lowest <= phy.highest)
+        & (phy.highest <= codes::LINK_RATE_3_0)
+}
+
 fn device_holds(phy: Phy) -> bool
     ensures { λ r. ⌜ r ≡ deviceHolds phy ⌝ }
 {
@@ -90,9 +99,7 @@ fn device_holds(phy: Phy) -> bool
     ((device == codes::END_DEVICE)
         | (device == codes::EDGE_EXPANDER)
         | (device == codes::FANOUT_EXPANDER))
-        & (codes::LINK_RATE_1_5 <= phy.lowest)
-        & (phy.lowest <= phy.highest)
-        & (phy.highest <= codes::LINK_RATE_3_0)
+        & device_rates_hold(phy)
 }
 
 // A SATA phy alone holds a signature, and its bytes are 0 where none is held.
@@ -139,10 +146,7 @@ fn by_device_holds(phy: Phy) -> bool
 fn signed_holds(phy: Phy) -> bool
     ensures { λ r. ⌜ r ≡ (isSata phy && isRate (phy .lowest) && isRate (phy .highest) && leb (phy .lowest) (phy .highest)) ⌝ }
 {
-    phy.is_sata()
-        & (codes::LINK_RATE_1_5 <= phy.lowest)
-        & (phy.lowest <= phy.highest)
-        & (phy.highest <= codes::LINK_RATE_3_0)
+    phy.is_sata() & device_rates_hold(phy)
 }
 
 // And byte 101.
