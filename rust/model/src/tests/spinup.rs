@@ -41,6 +41,25 @@ const LINKS: [([u8; 2], [u8; 2], u8); 9] = [
     ([9, 9], [9, 9], 9),
 ];
 
+/// Phy, byte 104 and negotiated rate of the sample, and whether it may have them: phy 1 has no
+/// device, 2 an expander.
+fn sample_rates() -> Vec<(usize, u8, u8, bool)> {
+    let mut all = Vec::new();
+    for (n, rate) in [9, 0, 9, 8, 9].into_iter().enumerate() {
+        for hold in 0..=255 {
+            for negotiated in [0, 1, 2, 3, 8, 9] {
+                let sound = match hold {
+                    0 => negotiated == 1 || negotiated == rate,
+                    1 => [0, 3, 4].contains(&n) && matches!(negotiated, 1 | 3),
+                    _ => false,
+                };
+                all.push((n, hold, negotiated, sound));
+            }
+        }
+    }
+    all
+}
+
 /// A phy 0 on port 0, with what the link rule gives for it when it isn't held.
 struct Case {
     phy: Phy,

@@ -1,6 +1,7 @@
 //! Byte 104 in the file: which phys may have it, what is carried, the bytes behind it, and the
 //! order of the checks.
 
+use super::sample_rates;
 use crate::layout::file::BLOCK;
 use crate::tests::adapter::{
     attach, bare, blocks, connector, file, largest, medium, opening, sample, sample_held, sealed,
@@ -57,23 +58,12 @@ fn disabled_failed_and_fixed_phys_may_be_held() {
     }
 }
 
-/// Phy 1 has no device, 2 an expander; what they negotiate has no part in it.
 #[test]
 fn every_value_on_every_phy() {
-    let rates = [9, 0, 9, 8, 9];
-    for (n, rate) in rates.into_iter().enumerate() {
-        for hold in 0..=255 {
-            for negotiated in [0, 1, 2, 3, 8, 9] {
-                let sound = match hold {
-                    0 => negotiated == 1 || negotiated == rate,
-                    1 => [0, 3, 4].contains(&n) && matches!(negotiated, 1 | 3),
-                    _ => false,
-                };
-                let expected = if sound { 0 } else { 104 };
-                let number = opening(&sealed(with(n, hold, negotiated)), 5);
-                assert_eq!(number, expected, "phy {n}, {hold}, negotiated {negotiated}");
-            }
-        }
+    for (n, hold, negotiated, sound) in sample_rates() {
+        let expected = if sound { 0 } else { 104 };
+        let number = opening(&sealed(with(n, hold, negotiated)), 5);
+        assert_eq!(number, expected, "phy {n}, {hold}, negotiated {negotiated}");
     }
 }
 

@@ -1,6 +1,6 @@
 //! Byte 104 of a phy in a state, 107: its rules, its place, and that it is 0 from p on.
 
-use super::{FIRST, LINUX};
+use super::{sample_rates, FIRST, LINUX};
 use crate::denied;
 use crate::layout::state::SIZE;
 use crate::tests::adapter::{buffer, medium, sample, sample_held};
@@ -39,19 +39,10 @@ fn its_place() {
 #[test]
 fn every_value_on_every_phy() {
     let disk = medium(5);
-    for (n, rate) in [9, 0, 9, 8, 9].into_iter().enumerate() {
-        for hold in 0..=255 {
-            for negotiated in [0, 1, 2, 3, 8, 9] {
-                let sound = match hold {
-                    0 => negotiated == 1 || negotiated == rate,
-                    1 => [0, 3, 4].contains(&n) && matches!(negotiated, 1 | 3),
-                    _ => false,
-                };
-                let expected = if sound { 0 } else { 107 };
-                let number = number_of(&with(n, hold, negotiated), &disk);
-                assert_eq!(number, expected, "phy {n}, {hold}, negotiated {negotiated}");
-            }
-        }
+    for (n, hold, negotiated, sound) in sample_rates() {
+        let expected = if sound { 0 } else { 107 };
+        let number = number_of(&with(n, hold, negotiated), &disk);
+        assert_eq!(number, expected, "phy {n}, {hold}, negotiated {negotiated}");
     }
 }
 
