@@ -167,7 +167,7 @@ module _ (ad : Adapter) (store : Store) (body : List ℕ) (h : adapterHolds ad �
         minimum = s .minimum ∙ minimum-configured (released phy) (phySetting body .class) l u f ∙ sym (told-rate 2 body (programmedMinimum phy));
         maximum = s .maximum ∙ maximum-configured (released phy) (phySetting body .class) l u f ∙ sym (told-rate 3 body (programmedMaximum phy));
         spinup = s .spinup ∙ set-spinup phy (phySetting body) l u e ∙ sym (spinup-told (toldSet body) n (phy .«spinup_hold») refl refl refl);
-        others = λ w _ own m before d. told-other body w own m before d;
+        others = λ w _. told-other body w;
       }
 
   pub set-effect : Does ad store setPhyInfo body (changed store (setInfo ad body))

@@ -21,13 +21,15 @@ ratesRule none minimum maximum lowest highest =
     (cond (inBoth linkRate15 minimum maximum lowest highest) linkRate15
     linkRateFailed))
 
+-- the same of a phy, whatever its byte 104
 unfoldable pub plainRule : Phy → ℕ
 plainRule phy = ratesRule (noDevice phy) (programmedMinimum phy) (programmedMaximum phy) (phy .lowest) (phy .highest)
 
--- W-205: "For such a phy a link rule result of 8 or 9 becomes 3, spin-up hold"
+-- W-205: "a link rule result of 8 or 9 becomes 3, spin-up hold",
 unfoldable pub waitingRate : ℕ → ℕ
 waitingRate rate = cond (isRate rate) sataSpinupHold rate
 
+-- "For such a phy": one whose byte 104 is 1
 unfoldable pub ruleOf : Phy → ℕ
 ruleOf phy = cond (eqb (phy .«spinup_hold») 1) (waitingRate (plainRule phy)) (plainRule phy)
 
