@@ -1,0 +1,83 @@
+-- Every line has exactly one kind. Assumes nothing.
+use mathlib.Core.Path.{_≡_, refl, sym, _∙_}
+use mathlib.Core.Bool.{Bool, true, false, not, _&&_, false≢true}
+use Prim.Native.Nat.{ℕ, _+_}
+use lib.Dec.{eqb}
+use borrow.Author.Tests.{eqb-true}
+use Rattle.laws.specs.Choice.{by-bool, both-left, both-right}
+use Rattle.tally.specs.declared.Line.{Line}
+use Rattle.tally.specs.Kinds.{LineKind, Granted, Denied, Otherwise, Short}
+use Rattle.tally.specs.Kinds.{isGranted, isDenied, isShort, isOtherwise, is, OneKind, Partition}
+
+-- the three that the numbers tell shut each other out
+pub granted-denied : (l : Line) → isGranted l ≡ true → isDenied l ≡ false
+granted-denied l p =
+    rw (eqb-true (l .code) 0 (both-right (eqb (l .call) 0) (eqb (l .code) 0) p), eqb-true (l .call) 0 (both-left (eqb (l .call) 0) (eqb (l .code) 0) p)) refl
+
+pub granted-short : (l : Line) → isGranted l ≡ true → isShort l ≡ false
+granted-short l p = rw (eqb-true (l .call) 0 (both-left (eqb (l .call) 0) (eqb (l .code) 0) p)) refl
+
+pub denied-short : (l : Line) → isDenied l ≡ true → isShort l ≡ false
+denied-short l p = rw (eqb-true (l .call) 0 (both-left (eqb (l .call) 0) (eqb (l .code) 4) p)) refl
+
+-- which of three tests that shut each other out held, if any
+unfoldable pub told : Bool → Bool → Bool → LineKind
+told true d s = Granted
+told false true s = Denied
+told false false true = Short
+told false false false = Otherwise
+
+-- a line's kind
+unfoldable pub kindOf : Line → LineKind
+kindOf l = told (isGranted l) (isDenied l) (isShort l)
+
+abbrev holds : Bool → Bool → Bool → LineKind → Bool
+holds g d s Granted = g
+holds g d s Denied = d
+holds g d s Otherwise = not g && (not d && not s)
+holds g d s Short = s
+
+is-holds : (k : LineKind) (l : Line) → is k l ≡ holds (isGranted l) (isDenied l) (isShort l) k
+is-holds Granted l = refl
+is-holds Denied l = refl
+is-holds Otherwise l = refl
+is-holds Short l = refl
+
+-- the kind told is the only one
+told-only : (g d s : Bool) → (g ≡ true → d ≡ false) → (g ≡ true → s ≡ false) → (d ≡ true → s ≡ false) → (k : LineKind) → holds g d s k ≡ true → k ≡ told g d s
+unfolding told
+told-only true d s gd gs ds Granted p = refl
+told-only true d s gd gs ds Denied p = absurd (false≢true (sym (gd refl) ∙ p))
+told-only true d s gd gs ds Otherwise p = absurd (false≢true p)
+told-only true d s gd gs ds Short p = absurd (false≢true (sym (gs refl) ∙ p))
+told-only false true s gd gs ds Granted p = absurd (false≢true p)
+told-only false true s gd gs ds Denied p = refl
+told-only false true s gd gs ds Otherwise p = absurd (false≢true p)
+told-only false true s gd gs ds Short p = absurd (false≢true (sym (ds refl) ∙ p))
+told-only false false true gd gs ds Granted p = absurd (false≢true p)
+told-only false false true gd gs ds Denied p = absurd (false≢true p)
+told-only false false true gd gs ds Otherwise p = absurd (false≢true p)
+told-only false false true gd gs ds Short p = refl
+told-only false false false gd gs ds Granted p = absurd (false≢true p)
+told-only false false false gd gs ds Denied p = absurd (false≢true p)
+told-only false false false gd gs ds Otherwise p = refl
+told-only false false false gd gs ds Short p = absurd (false≢true p)
+
+told-holds : (g d s : Bool) → holds g d s (told g d s) ≡ true
+unfolding told
+told-holds true d s = refl
+told-holds false true s = refl
+told-holds false false true = refl
+told-holds false false false = refl
+
+pub kind-only : (k : LineKind) (l : Line) → is k l ≡ true → k ≡ kindOf l
+unfolding kindOf
+kind-only k l p =
+    told-only (isGranted l) (isDenied l) (isShort l) (granted-denied l) (granted-short l) (denied-short l) k (sym (is-holds k l) ∙ p)
+
+pub kind-holds : (l : Line) → is (kindOf l) l ≡ true
+unfolding kindOf
+kind-holds l = is-holds (told (isGranted l) (isDenied l) (isShort l)) l ∙ told-holds (isGranted l) (isDenied l) (isShort l)
+
+pub partition : Partition
+partition l = record { kind = kindOf l; has = kind-holds l; only = λ k p. kind-only k l p }

@@ -1,0 +1,4 @@
+-- The laws that the proofs of this crate and of the crates above cite.
+pub mod KindsLaws
+pub mod TotalsLaws
+pub mod RecordLaws

@@ -1,0 +1,10 @@
+-- `tally::after` meets its contract. Assumes nothing.
+use borrow.Author.Needs.{needs}
+use Rattle.tally.proofs.after.Statement.{statement}
+use Rattle.tally.proofs.after.Tie as tie
+
+pub after-spec : {M : Type 1} → statement M
+after-spec =
+    tie.close
+    (tie.spec (λ c. search needs) (λ c κs. search needs) (λ c. search needs) (λ c. search needs) (λ c. cc)
+    (λ c. search needs) (λ c. search needs))

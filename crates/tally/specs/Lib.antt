@@ -1,0 +1,3 @@
+pub mod Kinds
+pub mod Totals
+pub mod Record

@@ -1,0 +1,66 @@
+-- The totals (W-206): "Each total equals the number of printed lines of that kind, and the last four sum to the first." Assumes nothing.
+use mathlib.Core.Path.{_≡_}
+use mathlib.Core.Bool.{Bool, true, false, cond}
+use mathlib.Core.List.{List, [], _∷_}
+use Prim.Native.Nat.{ℕ, _+_}
+use lib.ListN.{length}
+use Rattle.tally.specs.declared.Line.{Line}
+use Rattle.tally.specs.Kinds.{LineKind, Granted, Denied, Otherwise, Short}
+use Rattle.tally.specs.declared.Taken.{Taken}
+use Rattle.tally.specs.declared.Taken.the-variants.{Handled, Cut, End}
+use Rattle.tally.specs.declared.Totals.{Totals}
+use Rattle.tally.specs.Kinds.{is}
+
+-- "`total`, then requests, granted, denied, otherwise refused and 100s"
+abbrev pub totals : ℕ → ℕ → ℕ → ℕ → ℕ → Totals
+totals requests granted denied otherwise short =
+    record { requests = requests; granted = granted; denied = denied; otherwise = otherwise; short = short }
+
+-- 1 for a line of a kind, and 0 for any other
+abbrev pub one : Bool → ℕ
+one b = cond b 1 0
+
+-- the number of lines of a kind
+unfoldable pub countOf : LineKind → List Line → ℕ
+countOf k [] = 0
+countOf k (l ∷ lines) = one (is k l) + countOf k lines
+
+-- the totals of some lines
+unfoldable pub tallyOf : List Line → Totals
+tallyOf lines = totals (length lines) (countOf Granted lines) (countOf Denied lines) (countOf Otherwise lines) (countOf Short lines)
+
+-- "the last four sum to the first"
+abbrev pub Sums : Totals → Type 0
+Sums t = t .requests ≡ t .granted + t .denied + t .otherwise + t .short
+
+abbrev pub AllSum : Type 0
+AllSum = (lines : List Line) → Sums (tallyOf lines)
+
+-- ---- counting as the lines come
+
+-- before the first
+abbrev pub noTotals : Totals
+noTotals = totals 0 0 0 0 0
+
+-- with one line more
+unfoldable pub counted : Totals → Line → Totals
+counted t l =
+    totals (t .requests + 1) (t .granted + one (is Granted l)) (t .denied + one (is Denied l)) (t .otherwise + one (is Otherwise l))
+    (t .short + one (is Short l))
+
+-- the totals are those of some lines
+pub record Tallied (t : Totals) : Type 0 where
+  pub lines : List Line
+  pub same : t ≡ tallyOf lines
+
+-- "A cut request counts nowhere"
+abbrev pub after : Totals → Taken → Totals
+after t (Handled l) = counted t l
+after t Cut = t
+after t End = t
+
+-- a session goes on behind a request that was handled
+abbrev pub goesOn : Taken → Bool
+goesOn (Handled l) = true
+goesOn Cut = false
+goesOn End = false
