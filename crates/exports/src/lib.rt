@@ -10,6 +10,7 @@ ghost use Rattle.header.specs.declared.Kind.the-variants.{Srb, Linux};
 ghost use Rattle.state.specs.Open.{OpenCall};
 ghost use Rattle.service.specs.Serve.{storeOf};
 ghost use Rattle.dispatch.specs.Request.{RequestCall};
+ghost use Rattle.tally.specs.Record.{wrote, tallied};
 ghost use Rattle.exports.specs.declared.frames.Framing.the-variants.{FirstHeader, BothHeaders};
 ghost use Rattle.exports.specs.Session.{ran, sessionRun};
 
@@ -92,4 +93,13 @@ pub extern "C" fn ascheknopf_run_both(
         ≡ sessionRun BothHeaders (now (text .entry)) (now (file .entry)) (storeOf (now (medium .entry))) (now (session .entry)) (now (lines .entry)) ⌝ }
 {
     open_and_run(Framing::BothHeaders, text, file, medium, session, lines)
+}
+
+// Counts the lines of a record by their kind, and writes the totals at the start of the bytes lent for them, 64 bits each: requests, granted, denied,
+// otherwise refused, 100s. A rest under 8 bytes is no line. Gives 0, or 100 where fewer than 40 bytes are lent; these stay.
+#[no_mangle]
+pub extern "C" fn ascheknopf_tally(lines: &[u8], totals: &mut [u8]) -> u32
+    ensures { λ r. ⌜ wrote r (now (totals .exit)) ≡ tallied (now (lines .entry)) (now (totals .entry)) ⌝ }
+{
+    tally::write_tally(lines, totals)
 }
