@@ -1,5 +1,5 @@
-//! Offsets and sizes, each said once: of the structures of 001, of the adapter file, and of a
-//! state as bytes. Plain numbers, which the comparison and its tests share.
+//! Offsets and sizes, each said once: of the structures of 001, of the adapter file, of a state as
+//! bytes, and of a run's record. Plain numbers, which the comparison and its tests share.
 
 mod structures;
 
@@ -82,4 +82,15 @@ pub mod state {
     pub const fn connector_at(n: usize) -> usize {
         CONNECTORS + n * super::connector::SIZE
     }
+}
+
+/// A run's record: a line for each request.
+pub mod record {
+    /// The call's number.
+    pub const NUMBER: usize = 0;
+    /// The return code.
+    pub const CODE: usize = 4;
+    pub const SIZE: usize = 8;
+    /// In the place of a return code where none was written.
+    pub const NO_CODE: u32 = 0xFFFF_FFFF;
 }
