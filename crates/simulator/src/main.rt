@@ -1,11 +1,12 @@
 // The program (document 01, "Starred cases", its last paragraphs): opens the adapter of adapter.bin at the level of level.txt, handles the
-// requests of a session on standard input, and prints a line for each. Every rule is in the library; here is reading and printing.
+// requests of a session on standard input, prints a line for each, and at last the totals (W-206). Every rule is in the library; here is reading and printing.
 // The medium starts at zero.
 mod print;
 mod session;
 
 use print::say_open;
 use print::say_title;
+use print::say_totals;
 use session::run;
 ghost use Prim.Native.Nat.{_≤_};
 ghost use lib.ListN.{length};
@@ -44,7 +45,7 @@ fn simulate(text: &[u8], file: &[u8], medium: &mut [u8]) {
     let call = dispatch::open(text, file, medium, &mut state);
     if call == 0 {
         say_title();
-        run(&mut state, medium);
+        say_totals(run(&mut state, medium));
         return;
     }
     say_open(call);

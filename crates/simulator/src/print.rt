@@ -1,10 +1,8 @@
 // What the program prints.
 use libc::STDOUT_FILENO;
-
-// How many bytes a header has, and where in it the return code stands.
-const HEADER_SIZE: usize = 28;
-
-const RETURN_CODE: usize = 20;
+use tally::Line;
+use tally::Taken;
+use tally::Totals;
 
 fn say(text: &[u8]) {
     io::write_all(STDOUT_FILENO, text);
@@ -25,31 +23,46 @@ pub fn say_title() {
     say(b"request call code\n");
 }
 
-pub fn say_cut() {
-    say(b"cut\n");
-}
-
 // The return code, or `-` where none was written.
-fn say_code(call: u32, buffer: &[u8]) {
-    if call == 0 {
-        if HEADER_SIZE <= buffer.len() {
-            say_number(wire::read32(buffer, RETURN_CODE) as u64);
-            return;
-        }
+fn say_code(line: Line) {
+    if line.call == 0 {
+        say_number(line.code as u64);
+        return;
     }
     say(b"-");
 }
 
-fn say_start(number: u64, call: u32) {
+// A request's number, the call's number, and the return code.
+fn say_line(number: u64, line: Line) {
     say_number(number);
     say(b" ");
-    say_number(call as u64);
+    say_number(line.call as u64);
     say(b" ");
+    say_code(line);
+    say(b"\n");
 }
 
-// A request's number, the call's number, and the return code.
-pub fn say_request(number: u64, call: u32, buffer: &[u8]) {
-    say_start(number, call);
-    say_code(call, buffer);
+// What was taken from the session, request `number` if it is one.
+pub fn say_taken(number: u64, taken: Taken) {
+    match taken {
+        Taken::Handled(line) => say_line(number, line),
+        Taken::Cut => say(b"cut\n"),
+        Taken::End => {}
+    }
+}
+
+fn say_total(n: u64) {
+    say(b" ");
+    say_number(n);
+}
+
+// The last line: requests, granted, denied, otherwise refused, 100s.
+pub fn say_totals(totals: Totals) {
+    say(b"total");
+    say_total(totals.requests);
+    say_total(totals.granted);
+    say_total(totals.denied);
+    say_total(totals.otherwise);
+    say_total(totals.short);
     say(b"\n");
 }

@@ -1,15 +1,18 @@
 -- Counting as the lines come gives the number of lines of each kind, and these sum to the number of lines. Assumes nothing.
 use mathlib.Core.Path.{_≡_, refl, sym, _∙_}
-use mathlib.Core.Bool.{Bool, true, false, not, _&&_}
+use mathlib.Core.Bool.{Bool, true, false, not, _&&_, false≢true}
 use mathlib.Core.List.{List, [], _∷_, _++_}
 use Prim.Native.Nat.{ℕ, _+_, _<_, _≤_}
 use native.Mathlib.Omega.{arith}
 use lib.ListN.{length, length-append}
+use borrow.Author.Needs.{needs}
 use Rattle.tally.specs.declared.Line.{Line}
 use Rattle.tally.specs.Kinds.{LineKind, Granted, Denied, Otherwise, Short}
+use Rattle.tally.specs.declared.Taken.{Taken}
+use Rattle.tally.specs.declared.Taken.the-variants.{Handled, Cut, End}
 use Rattle.tally.specs.declared.Totals.{Totals}
 use Rattle.tally.specs.Kinds.{is}
-use Rattle.tally.specs.Totals.{totals, one, countOf, tallyOf, noTotals, counted, Tallied, Sums, AllSum}
+use Rattle.tally.specs.Totals.{totals, one, countOf, tallyOf, noTotals, counted, Tallied, Sums, AllSum, after, goesOn}
 use native.Mathlib.Nat.{add-zero}
 use Rattle.tally.specs.Kinds.{isGranted, isDenied, isShort, isOtherwise}
 use Rattle.tally.proofs.KindsLaws.{granted-denied, granted-short, denied-short, told, kindOf, kind-only, kind-holds}
@@ -99,3 +102,28 @@ within-otherwise t n h l = let e : Sums t = tallied-sums t h in omega (arith, e)
 
 pub within-short : (t : Totals) (n : ℕ) → Tallied t → t .requests < n → t .short < n
 within-short t n h l = let e : Sums t = tallied-sums t h in omega (arith, e)
+
+-- ---- the loop over a session: each request that is numbered was counted
+
+pub session-none : (t : Totals) → t ≡ noTotals → Tallied t
+session-none t e = rw e tallied-none
+
+pub session-first : (t : Totals) → t ≡ noTotals → t .requests + 1 ≡ 1
+session-first t e = rw e refl
+
+pub session-room : (t : Totals) (number m : ℕ) → t .requests + 1 ≡ number → number < m → t .requests < m
+session-room t number m e h = omega (arith, e)
+
+pub session-tallied : (s t : Totals) (x : Taken) → Tallied t → s ≡ after t x → Tallied s
+session-tallied s t (Handled l) h e = rw e (tallied-more t l h)
+session-tallied s t Cut h e = rw e h
+session-tallied s t End h e = rw e h
+
+pub session-next : (s t : Totals) (x : Taken) (b : Bool) (number : ℕ) → t .requests + 1 ≡ number → s ≡ after t x → b ≡ goesOn x → b ≡ true
+    → s .requests + 1 ≡ number + 1
+unfolding counted
+session-next s t (Handled l) b number e p q r = rw (p, e) refl
+session-next s t Cut b number e p q r = absurd (false≢true (sym q ∙ r))
+session-next s t End b number e p q r = absurd (false≢true (sym q ∙ r))
+
+pub ruleset session-loop = (session-none, session-first, session-room, session-tallied, session-next, needs)

@@ -10,6 +10,10 @@ use Rattle.tally.specs.declared.Line.{Line}
 abbrev pub line : ℕ → ℕ → Line
 line call code = record { call = call; code = code }
 
+-- what stands for the code of a line whose request got none
+abbrev pub noCode : ℕ
+noCode = 4294967295
+
 -- "Granted means a return code of 0 or 2000", which section 10 has as STATUS_SUCCESS and PHY_INFO_CHANGED, both 0
 abbrev pub isGranted : Line → Bool
 isGranted l = eqb (l .call) 0 && eqb (l .code) success
