@@ -27,28 +27,29 @@ use Rattle.stp.specs.Body.{phyAsked, portAsked, connectionRate, destinationOf}
 use Rattle.passthrough.specs.Passthrough.{Passed, passes, formHolds, connected, diskOf, onDisk, sentTo, passedTo, passthrough}
 use Rattle.service.specs.Serve.{Store, withMedium, passed}
 use Rattle.claims.specs.LastWriter.{Told, after, Sector, sectorIn, sectorWriter}
+use Rattle.claims.proofs.Ways.{Own}
 use Rattle.claims.proofs.Effect.{quiet-other, selectsIn, OnStore, Does, tables-kept, no-effect}
 
 -- ---- the ways that it can go
 
 module _ (ad : Adapter) (medium body : List ℕ) where
-  chosen-code : selectsIn ad body .code ≤ 2014
+  chosen-code : Own (selectsIn ad body .code)
   unfolding selectBy selection
   chosen-code =
       let phy : PhyIdentifier = phyAsked body in
       let port : PortIdentifier = portAsked body in
       let lowest : PhyIdentifier = lowestOf (portIn ad) (ad .«phy_count») port in
-      either Small (not (phyGiven phy) && not (portGiven port)) (omega arith)
-      (either Small (phyGiven phy && leb (ad .«phy_count») (phy .0)) (omega arith)
-      (either Small (portGiven port && leb (ad .«phy_count») (lowest .0)) (omega arith)
-      (either Small (phyGiven phy && portGiven port && not (eqb (portIn ad (phy .0) .0) (port .0))) (omega arith)
-      (either Small (phyGiven phy) (omega arith) (omega arith)))))
+      either Chosen (not (phyGiven phy) && not (portGiven port)) (omega arith, λ e. omega arith)
+      (either Chosen (phyGiven phy && leb (ad .«phy_count») (phy .0)) (omega arith, λ e. omega arith)
+      (either Chosen (portGiven port && leb (ad .«phy_count») (lowest .0)) (omega arith, λ e. omega arith)
+      (either Chosen (phyGiven phy && portGiven port && not (eqb (portIn ad (phy .0) .0) (port .0))) (omega arith, λ e. omega arith)
+      (either Chosen (phyGiven phy) (omega arith, λ e. omega arith) (omega arith, λ e. omega arith)))))
     where
-      Small : Selection → Type 0
-      Small s = s .code ≤ 2014
+      Chosen : Selection → Type 0
+      Chosen s = Own (s .code)
 
   -- it is refused, or the phy that it selects is connected and its disk serves the command
-  pub passed-by : (P : Passed → Type 0) → ((code : ℕ) → 0 < code → code ≤ 2014 → P (passes code medium body))
+  pub passed-by : (P : Passed → Type 0) → ((code : ℕ) → 0 < code → Own code → P (passes code medium body))
       → (selectsIn ad body .code ≡ success → connected (phyIn ad (selectsIn ad body .phy .0)) (connectionRate body) (destinationOf body) ≡ true
       → P (onDisk medium (selectsIn ad body .phy .0) body)) → P (passthrough ad medium body)
   unfolding passthrough passedTo sentTo
@@ -57,10 +58,10 @@ module _ (ad : Adapter) (medium body : List ℕ) where
       either P (formHolds (fis body 0) (connectionRate body))
       (either-by P (eqb (s .code) success)
       (λ h. either-by P (connected (phyIn ad (s .phy .0)) (connectionRate body) (destinationOf body)) (done (eqb-true (s .code) success h))
-      (λ _. refused connectionFailed (omega arith) (omega arith)))
+      (λ _. refused connectionFailed (omega arith) (omega arith, λ e. omega arith)))
       (λ h. let n : s .code ≢ 0 = eqb-false (s .code) success h in
       refused (s .code) (omega arith) chosen-code))
-      (refused invalidParameter (omega arith) (omega arith))
+      (refused invalidParameter (omega arith) (omega arith, λ e. omega arith))
 
   chosen-below : selectsIn ad body .code ≡ success → selectsIn ad body .phy .0 < ad .«phy_count»
   unfolding selectBy
@@ -157,7 +158,7 @@ pub passthrough-effect : (ad : Adapter) (store : Store) (body : List ℕ) → le
 unfolding onDisk
 passthrough-effect ad store body h r =
     passed-by ad (store .medium) body (λ (p : Passed). Does ad store stpPassthru body (passed ad store p))
-    (λ code k l. record { small = l; effect = no-effect ad _ store (ne-eqb code success (λ e. omega arith)) })
+    (λ code k own. record { small = own .0; effect = no-effect ad _ store (ne-eqb code success (λ e. omega arith)) })
     (λ c _. record {
       small = disk-code ad store body h r c;
       effect = record {

@@ -13,4 +13,6 @@ pub mod PastBoth
 pub mod ReadOnly
 pub mod Reporting
 pub mod SpinUp
+pub mod OwnCodes
+pub mod ClosingTally
 pub mod Starred

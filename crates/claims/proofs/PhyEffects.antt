@@ -28,6 +28,7 @@ use Rattle.link_errors.specs.LinkErrors.{afterReset, linkErrors, countersShown}
 use Rattle.state.specs.State.{adapterHolds}
 use Rattle.service.specs.Serve.{Store, changed}
 use Rattle.claims.specs.LastWriter.{Told, Writer, after, rateWriter, sectorWriter}
+use Rattle.claims.proofs.Ways.{Own}
 use Rattle.claims.proofs.Moved.{Sized, fields-in, negotiated-in}
 use Rattle.claims.proofs.Effect.{quiet-other, selectsIn, Does, store-kept, no-effect, report-effect, OwnPhy, spinup-told, Storing, storing-kept, stored-effect}
 
@@ -80,7 +81,7 @@ module _ (phy : Phy) (s : PhySetting) (minimum maximum : ℕ) (e : length (phy .
 
 -- ---- code 21: the ways that it can go
 
-unfoldable setNow : Phy → List ℕ → Phy
+unfoldable pub setNow : Phy → List ℕ → Phy
 setNow phy body =
     setTo phy (phySetting body) (resulting (getD body 2 0) (programmedMinimum phy)) (resulting (getD body 3 0) (programmedMaximum phy))
 
@@ -89,7 +90,7 @@ Allowed phy body =
     (parametersHold (phySetting body) ≡ true)
     × (ratesAllowed phy (phySetting body) (resulting (getD body 2 0) (programmedMinimum phy)) (resulting (getD body 3 0) (programmedMaximum phy)) ≡ true)
 
-set-by : (ad : Adapter) (body : List ℕ) (P : Changed → Type 0) → ((code : ℕ) → 0 < code → code ≤ 2014 → P (leaves code ad body))
+pub set-by : (ad : Adapter) (body : List ℕ) (P : Changed → Type 0) → ((code : ℕ) → 0 < code → Own code → P (leaves code ad body))
     → (named body < ad .«phy_count» → Allowed (phyIn ad (named body)) body
     → P (leaves success (withPhy ad (named body) (setNow (phyIn ad (named body)) body)) body))
     → P (setInfo ad body)
@@ -98,12 +99,12 @@ set-by ad body P refused done =
     let phy : Phy = phyIn ad (named body) in
     let Q : (Stored → Type 0) = λ s. P (withBody s body) in
     either-by Q (ltb (named body) (ad .«phy_count»))
-    (λ h. either Q (eqb (phy .fixed) 1) (refused 2000 (omega arith) (omega arith))
+    (λ h. either Q (eqb (phy .fixed) 1) (refused 2000 (omega arith) (omega arith, λ e. omega arith))
     (either-by Q (parametersHold (phySetting body))
     (λ k. either-by Q (ratesAllowed phy (phySetting body) (resulting (getD body 2 0) (programmedMinimum phy)) (resulting (getD body 3 0) (programmedMaximum phy)))
-    (λ r. done (ltb-true (named body) (ad .«phy_count») h) (k, r)) (λ _. refused 2001 (omega arith) (omega arith)))
-    (λ _. refused 3 (omega arith) (omega arith))))
-    (λ _. refused 2002 (omega arith) (omega arith))
+    (λ r. done (ltb-true (named body) (ad .«phy_count») h) (k, r)) (λ _. refused 2001 (omega arith) (omega arith, λ e. omega arith)))
+    (λ _. refused 3 (omega arith) (omega arith, λ e. omega arith))))
+    (λ _. refused 2002 (omega arith) (omega arith, λ e. omega arith))
 
 -- ---- code 21: the rates that it tells
 
@@ -125,7 +126,7 @@ told-other body w own m before d = rw (own m (toldSet body) (ne-eqb (named body)
 -- ---- code 22: the ways that it can go
 
 module _ (ad : Adapter) (body : List ℕ) where
-  pub errors-by : (P : Changed → Type 0) → ((code : ℕ) → 0 < code → code ≤ 2014 → P (leaves code ad body))
+  pub errors-by : (P : Changed → Type 0) → ((code : ℕ) → 0 < code → Own code → P (leaves code ad body))
       → (eqb (getD body resetPlace 0) linkErrorResetCounts ≡ true → named body < ad .«phy_count»
       → P (leaves success (withPhy ad (named body) (cleared (phyIn ad (named body)))) (countersShown body (phyIn ad (named body) .counters))))
       → (eqb (getD body resetPlace 0) linkErrorResetCounts ≡ false → P (leaves success ad (countersShown body (phyIn ad (named body) .counters)))) → P (linkErrors ad body)
@@ -135,8 +136,8 @@ module _ (ad : Adapter) (body : List ℕ) where
       (either-by P (ltb (named body) (ad .«phy_count»))
       (λ k. either-by (λ (s : Stored). P (withBody s (countersShown body (phyIn ad (named body) .counters)))) (eqb (getD body resetPlace 0) linkErrorResetCounts)
       (λ t. cleared t (ltb-true (named body) (ad .«phy_count») k)) kept)
-      (λ _. refused 2002 (omega arith) (omega arith)))
-      (refused 3 (omega arith) (omega arith))
+      (λ _. refused 2002 (omega arith) (omega arith, λ e. omega arith)))
+      (refused 3 (omega arith) (omega arith, λ e. omega arith))
 
   -- one that does not clear leaves the tables
   pub errors-read : eqb (getD body resetPlace 0) linkErrorResetCounts ≡ false → linkErrors ad body .adapter ≡ ad
@@ -173,7 +174,7 @@ module _ (ad : Adapter) (store : Store) (body : List ℕ) (h : adapterHolds ad �
   pub set-effect : Does ad store setPhyInfo body (changed store (setInfo ad body))
   set-effect =
       set-by ad body (λ (c : Changed). Does ad store setPhyInfo body (changed store c))
-      (λ code k l. record { small = l; effect = no-effect ad _ store (ne-eqb code success (λ e. omega arith)) })
+      (λ code k own. record { small = own .0; effect = no-effect ad _ store (ne-eqb code success (λ e. omega arith)) })
       (λ k a. record {
         small = omega arith;
         effect = record {
@@ -195,7 +196,7 @@ module _ (ad : Adapter) (store : Store) (body : List ℕ) (h : adapterHolds ad �
   pub errors-effect : Does ad store getLinkErrors body (changed store (linkErrors ad body))
   errors-effect =
       errors-by ad body (λ (c : Changed). Does ad store getLinkErrors body (changed store c))
-      (λ code k l. record { small = l; effect = no-effect ad _ store (ne-eqb code success (λ e. omega arith)) })
+      (λ code k own. record { small = own .0; effect = no-effect ad _ store (ne-eqb code success (λ e. omega arith)) })
       (λ _ k. record {
         small = omega arith;
         effect = record {

@@ -69,8 +69,8 @@ module _ (p : Point) (r : Request) where
   unfolding resets
   errors-left long e =
       errors-by ad body (λ (c : Changed). Left (replyWith p r (changed store c)))
-      (λ code k l.
-      rw (told-served p r (leaving code ad body) l long) (left-refused p (toldOf (controlOf r) body (leaving code ad body)) (ne-eqb code success (λ z. omega arith))))
+      (λ code k own.
+      rw (told-served p r (leaving code ad body) (own .0) long) (left-refused p (toldOf (controlOf r) body (leaving code ad body)) (ne-eqb code success (λ z. omega arith))))
       (λ t k. rw (told-served p r (leaving success clearing shown) (omega arith) long, eq-eqb (controlOf r) getLinkErrors e, t) refl)
       (λ t.
       rw (told-served p r (leaving success ad shown) (omega arith) long)

@@ -24,7 +24,7 @@ use Rattle.claims.specs.Run.{exchangeOf, step, openedAt}
 use Rattle.claims.specs.LastWriter.{granted, Told, toldBy}
 use Rattle.claims.specs.RoundTrip.{grants}
 use Rattle.claims.specs.SpinUp.{phyAtPoint, spinupWriter, SpinUp}
-use Rattle.claims.proofs.Ways.{served-by, tables-hold, replyWith, handled-by, told-number, told-refused, told-served}
+use Rattle.claims.proofs.Ways.{Own, served-by, tables-hold, replyWith, handled-by, told-number, told-refused, told-served}
 use Rattle.claims.proofs.Moved.{Sized, sized-lent, fields-in, negotiated-in}
 use Rattle.claims.proofs.Effect.{selectsIn, spinup-told}
 use Rattle.claims.proofs.DiskEffect.{passed-by}
@@ -50,11 +50,11 @@ module _ (p : Point) (n : ℕ) (h : adapterHolds (p .state .adapter) ≡ true) (
     Silent o = (granted (exchangeOf r o) ≡ false) × (o .point ≡ p)
 
     -- a code 25 that is refused
-    refused-silent : formOf r .size ≤ length (r .buffer) → (code : ℕ) → 0 < code → code ≤ 2014
+    refused-silent : formOf r .size ≤ length (r .buffer) → (code : ℕ) → 0 < code → Own code
         → Silent (replyWith p r (passed (p .state .adapter) (p .store) (passes code (p .store .medium) (bodyOf r))))
     unfolding toldBy
-    refused-silent long code z k =
-        let t = told-served p r (passed (p .state .adapter) (p .store) (passes code (p .store .medium) (bodyOf r))) k long in
+    refused-silent long code z own =
+        let t = told-served p r (passed (p .state .adapter) (p .store) (passes code (p .store .medium) (bodyOf r))) (own .0) long in
         (ap (λ (y : Told). y .granted) t ∙ ne-eqb code success (λ q. omega arith), refl)
 
     silent-all : Silent (handled p r)

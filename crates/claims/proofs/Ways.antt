@@ -8,7 +8,7 @@ use lib.Dec.{eqb, leb}
 use lib.ListN.{length, take}
 use borrow.Author.Tests.{ne-eqb, eqb-true, eqb-false}
 use Rattle.laws.specs.Choice.{either-by, both-right}
-use Rattle.codes.specs.Codes.{setPhyInfo, getLinkErrors, stpPassthru, success}
+use Rattle.codes.specs.Codes.{setPhyInfo, getLinkErrors, stpPassthru, success, writeAttempted}
 use Rattle.level.specs.declared.Level.{Level}
 use Rattle.adapter.specs.Adapter.{Adapter, mediumSize}
 use Rattle.set_phy_info.specs.SetPhyInfo.{setInfo}
@@ -39,6 +39,10 @@ served-by ad store control body P set errors pass report =
     (λ n. either-by P (eqb control getLinkErrors) (λ h. errors (eqb-true control getLinkErrors h))
     (λ l. either-by P (eqb control stpPassthru) (λ h. pass (eqb-true control stpPassthru h))
     (λ m. report (eqb-false control setPhyInfo n) (eqb-false control getLinkErrors l) (eqb-false control stpPassthru m))))
+
+-- a return code of a code's own checks: small, and not that of a denied request
+abbrev pub Own : ℕ → Type 0
+Own code = (code ≤ 2014) × (code ≡ writeAttempted → ⊥)
 
 -- what is known of it
 pub record Ready (ad : Adapter) (store : Store) (control : ℕ) (body : List ℕ) : Type 0 where

@@ -7,3 +7,4 @@ pub mod ReadOnly
 pub mod Reporting
 pub mod SpinUp
 pub mod Starred
+pub mod ClosingTally

@@ -120,6 +120,25 @@ linux-access kind level control buffer code e p = rw e (p ∙ sym (full-checks l
 
 -- ---- the checks up to the level
 
+-- those of the header give 0, 2 or 3
+header-small : (r : Request) → headerCode r ≤ 3
+unfolding srbCode codeChecked linuxCode
+header-small r = by-kind (r .kind) (r .buffer)
+  where
+    Small : ℕ → Type 0
+    Small n = n ≤ 3
+
+    by-kind : (kind : Kind) (buffer : List ℕ) → codeBy kind buffer ≤ 3
+    by-kind Srb buffer =
+        either Small (eqb (headerLength buffer) (srb .size))
+        (either Small (known (controlCode buffer))
+        (either Small (signatureHolds (controlCode buffer) buffer)
+        (either Small (lengthHolds (controlCode buffer) (lengthField buffer) (srbBody buffer)) (omega arith) (omega arith)) (omega arith)) (omega arith))
+        (omega arith)
+    by-kind (Linux control) buffer =
+        either Small (directionHolds buffer)
+        (either Small (known control) (either Small (linuxLengthHolds control buffer) (omega arith) (omega arith)) (omega arith)) (omega arith)
+
 module _ (level : Level) (r : Request) where
   checks-header : checksCode level r ≡ 0 → headerCode r ≡ 0
   unfolding checksCode
@@ -140,23 +159,17 @@ module _ (level : Level) (r : Request) where
 
   -- their code is small
   pub checks-small : checksCode level r ≤ 4
-  unfolding checksCode srbCode codeChecked linuxCode
+  unfolding checksCode
   checks-small =
-      either Small (eqb (headerCode r) success) (either Small (above level r) (omega arith) (omega arith)) (by-kind (r .kind) (r .buffer))
-    where
-      Small : ℕ → Type 0
-      Small n = n ≤ 4
+      let h : headerCode r ≤ 3 = header-small r in
+      either (λ (n : ℕ). n ≤ 4) (eqb (headerCode r) success) (either (λ (n : ℕ). n ≤ 4) (above level r) (omega arith) (omega arith)) (omega arith)
 
-      by-kind : (kind : Kind) (buffer : List ℕ) → codeBy kind buffer ≤ 4
-      by-kind Srb buffer =
-          either Small (eqb (headerLength buffer) (srb .size))
-          (either Small (known (controlCode buffer))
-          (either Small (signatureHolds (controlCode buffer) buffer)
-          (either Small (lengthHolds (controlCode buffer) (lengthField buffer) (srbBody buffer)) (omega arith) (omega arith)) (omega arith)) (omega arith))
-          (omega arith)
-      by-kind (Linux control) buffer =
-          either Small (directionHolds buffer)
-          (either Small (known control) (either Small (linuxLengthHolds control buffer) (omega arith) (omega arith)) (omega arith)) (omega arith)
+  -- and not 4 unless the level refuses
+  pub checks-other : refusedByLevel level r ≡ false → checksCode level r ≤ 3
+  unfolding refusedByLevel checksCode
+  checks-other h =
+      by-bool (λ (b : Bool). b && above level r ≡ false → cond b (cond (above level r) writeAttempted success) (headerCode r) ≤ 3)
+      (λ e. rw e (omega arith)) (λ _. header-small r) (eqb (headerCode r) success) h
 
   -- one that the level refuses is answered 4
   pub checks-refused : refusedByLevel level r ≡ true → checksCode level r ≡ writeAttempted

@@ -4,7 +4,7 @@ use mathlib.Core.Bool.{Bool, true, false, not, _&&_, false≢true}
 use Prim.Native.Nat.{ℕ, _+_}
 use lib.Dec.{eqb}
 use borrow.Author.Tests.{eqb-true}
-use Rattle.laws.specs.Choice.{by-bool, both-left, both-right}
+use Rattle.laws.specs.Choice.{by-bool, both-left, both-right, and-false}
 use Rattle.tally.specs.declared.Line.{Line}
 use Rattle.tally.specs.Kinds.{LineKind, Granted, Denied, Otherwise, Short}
 use Rattle.tally.specs.Kinds.{isGranted, isDenied, isShort, isOtherwise, is, OneKind, Partition}
@@ -19,6 +19,13 @@ granted-short l p = rw (eqb-true (l .call) 0 (both-left (eqb (l .call) 0) (eqb (
 
 pub denied-short : (l : Line) → isDenied l ≡ true → isShort l ≡ false
 denied-short l p = rw (eqb-true (l .call) 0 (both-left (eqb (l .call) 0) (eqb (l .code) 4) p)) refl
+
+pub denied-granted : (l : Line) → isDenied l ≡ true → isGranted l ≡ false
+denied-granted l p =
+    by-bool (λ (b : Bool). isGranted l ≡ b → isGranted l ≡ false) (λ e. absurd (false≢true (sym (granted-denied l e) ∙ p))) (λ e. e) (isGranted l) refl
+
+pub denied-otherwise : (l : Line) → isDenied l ≡ true → isOtherwise l ≡ false
+denied-otherwise l p = rw (p, and-false) refl
 
 -- which of three tests that shut each other out held, if any
 unfoldable pub told : Bool → Bool → Bool → LineKind

@@ -15,14 +15,14 @@ use Rattle.wire.specs.Number.{bytes}
 use Rattle.wire.proofs.NumberLaws.{length-bytes}
 use Rattle.tally.specs.declared.Line.{Line}
 use Rattle.tally.specs.declared.Totals.{Totals}
-use Rattle.tally.specs.Totals.{noTotals, countOf, tallyOf, counted, Tallied}
+use Rattle.tally.specs.Totals.{noTotals, numberOf, tallyOf, counted, Tallied}
 use Rattle.tally.specs.Record.{lineAt, linesIn, totalsBytes, wrote, tallied}
 use Rattle.tally.proofs.TotalsLaws.{tally-more}
 
 -- ---- the loop over a record's lines
 
 pub record-none : (lines : List ℕ) (t : Totals) → t ≡ noTotals → t ≡ tallyOf (listTo (lineAt lines) 0)
-unfolding tallyOf countOf listTo
+unfolding tallyOf numberOf listTo
 record-none lines t e = e
 
 -- line k is within

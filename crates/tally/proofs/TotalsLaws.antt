@@ -12,7 +12,7 @@ use Rattle.tally.specs.declared.Taken.{Taken}
 use Rattle.tally.specs.declared.Taken.the-variants.{Handled, Cut, End}
 use Rattle.tally.specs.declared.Totals.{Totals}
 use Rattle.tally.specs.Kinds.{is}
-use Rattle.tally.specs.Totals.{totals, one, countOf, tallyOf, noTotals, counted, Tallied, Sums, AllSum, after, goesOn}
+use Rattle.tally.specs.Totals.{totals, one, numberOf, countOf, tallyOf, noTotals, counted, Tallied, Sums, AllSum, after, goesOn}
 use native.Mathlib.Nat.{add-zero}
 use Rattle.tally.specs.Kinds.{isGranted, isDenied, isShort, isOtherwise}
 use Rattle.tally.proofs.KindsLaws.{granted-denied, granted-short, denied-short, told, kindOf, kind-only, kind-holds}
@@ -20,7 +20,7 @@ use Rattle.tally.proofs.KindsLaws.{granted-denied, granted-short, denie
 -- ---- one line more
 
 count-more : (k : LineKind) (lines : List Line) (l : Line) → countOf k (lines ++ (l ∷ [])) ≡ countOf k lines + one (is k l)
-unfolding countOf
+unfolding numberOf
 count-more k [] l = omega arith
 count-more k (x ∷ lines) l = rw (count-more k lines l) (omega arith)
 
@@ -30,7 +30,7 @@ tally-more lines l =
     rw (count-more Granted lines l, count-more Denied lines l, count-more Otherwise lines l, count-more Short lines l, length-append lines (l ∷ [])) refl
 
 pub tallied-none : Tallied noTotals
-unfolding tallyOf countOf
+unfolding tallyOf numberOf
 tallied-none = record { lines = []; same = refl }
 
 pub tallied-more : (t : Totals) (l : Line) → Tallied t → Tallied (counted t l)
@@ -83,7 +83,7 @@ unfolding counted
 ones l = let h : Sums (counted noTotals l) = counted-sums noTotals l refl in omega (arith, h)
 
 pub sums : AllSum
-unfolding tallyOf countOf
+unfolding tallyOf numberOf
 sums [] = refl
 sums (l ∷ lines) = omega (arith, ones l, sums lines)
 

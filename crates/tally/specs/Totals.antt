@@ -16,14 +16,18 @@ abbrev pub totals : ℕ → ℕ → ℕ → ℕ → ℕ → Totals
 totals requests granted denied otherwise short =
     record { requests = requests; granted = granted; denied = denied; otherwise = otherwise; short = short }
 
--- 1 for a line of a kind, and 0 for any other
+-- 1 where a test holds, and 0 where not
 abbrev pub one : Bool → ℕ
 one b = cond b 1 0
 
--- the number of lines of a kind
-unfoldable pub countOf : LineKind → List Line → ℕ
-countOf k [] = 0
-countOf k (l ∷ lines) = one (is k l) + countOf k lines
+-- how many of a list a test holds of
+unfoldable pub numberOf : {X : Type 0} → (X → Bool) → List X → ℕ
+numberOf f [] = 0
+numberOf f (x ∷ xs) = one (f x) + numberOf f xs
+
+-- "the number of printed lines of that kind"
+abbrev pub countOf : LineKind → List Line → ℕ
+countOf k lines = numberOf (is k) lines
 
 -- the totals of some lines
 unfoldable pub tallyOf : List Line → Totals
