@@ -1,18 +1,14 @@
 // The simulator for programs in other languages: its two calls, the second under either header, and a whole run, over bytes that the caller lends.
 // `ascheknopf.h` declares them for C.
-mod frames;
-mod session;
-
 use frames::Framing;
-use session::run;
 ghost use mathlib.Core.Path.{_≡_};
 ghost use Rattle.header.specs.declared.Kind.the-variants.{Srb, Linux};
 ghost use Rattle.state.specs.Open.{OpenCall};
 ghost use Rattle.service.specs.Serve.{storeOf};
 ghost use Rattle.dispatch.specs.Request.{RequestCall};
+ghost use Rattle.frames.specs.declared.Framing.the-variants.{FirstHeader, BothHeaders};
+ghost use Rattle.session.specs.Session.{ran, sessionRun};
 ghost use Rattle.tally.specs.Record.{wrote, tallied};
-ghost use Rattle.exports.specs.declared.frames.Framing.the-variants.{FirstHeader, BothHeaders};
-ghost use Rattle.exports.specs.Session.{ran, sessionRun};
 
 // Opens an adapter. Leaves its state and gives 0, or leaves the zero state and gives the number of what is wrong.
 #[no_mangle]
@@ -45,23 +41,6 @@ pub extern "C" fn ascheknopf_request_linux(
     dispatch::request_linux(state, medium, control, buffer)
 }
 
-// Opens the adapter and runs a session.
-fn open_and_run(
-    framing: Framing,
-    text: &[u8],
-    file: &[u8],
-    medium: &mut [u8],
-    session: &mut [u8],
-    lines: &mut [u8],
-) -> usize
-    ensures { λ r. ⌜ ran r (storeOf (now (medium .exit))) (now (session .exit)) (now (lines .exit))
-        ≡ sessionRun framing (now (text .entry)) (now (file .entry)) (storeOf (now (medium .entry))) (now (session .entry)) (now (lines .entry)) ⌝ }
-{
-    let mut state = [0u8; dispatch::SIZE];
-    dispatch::open(text, file, medium, &mut state);
-    run(framing, &mut state, medium, session, lines)
-}
-
 // Opens the adapter and handles the requests of a session in order, until one is cut short or the record is full: the replies stand in the
 // requests' places, and the record has 8 bytes for each, the call's number and the return code (FFFFFFFFh for none). A request may be of any
 // length. Where the opening refuses, the zero state goes on. Gives the number of requests handled.
@@ -76,7 +55,7 @@ pub extern "C" fn ascheknopf_run(
     ensures { λ r. ⌜ ran r (storeOf (now (medium .exit))) (now (session .exit)) (now (lines .exit))
         ≡ sessionRun FirstHeader (now (text .entry)) (now (file .entry)) (storeOf (now (medium .entry))) (now (session .entry)) (now (lines .entry)) ⌝ }
 {
-    open_and_run(Framing::FirstHeader, text, file, medium, session, lines)
+    session::open_and_run(Framing::FirstHeader, text, file, medium, session, lines)
 }
 
 // The same of a session whose requests may have either header: before each stand its header (0 the first, 1 the Linux one), its control code (0
@@ -92,7 +71,7 @@ pub extern "C" fn ascheknopf_run_both(
     ensures { λ r. ⌜ ran r (storeOf (now (medium .exit))) (now (session .exit)) (now (lines .exit))
         ≡ sessionRun BothHeaders (now (text .entry)) (now (file .entry)) (storeOf (now (medium .entry))) (now (session .entry)) (now (lines .entry)) ⌝ }
 {
-    open_and_run(Framing::BothHeaders, text, file, medium, session, lines)
+    session::open_and_run(Framing::BothHeaders, text, file, medium, session, lines)
 }
 
 // Counts the lines of a record by their kind, and writes the totals at the start of the bytes lent for them, 64 bits each: requests, granted, denied,

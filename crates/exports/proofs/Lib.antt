@@ -1,5 +1,0 @@
--- The laws that the proofs of this crate cite.
-pub mod FramesLaws
-pub mod RequestLaws
-pub mod RunLaws
-pub mod StateLaws

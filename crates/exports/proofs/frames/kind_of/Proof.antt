@@ -1,9 +1,0 @@
--- `exports::frames::kind_of` meets its contract. Assumes nothing.
-use Rattle.laws.specs.Choice.{picks}
-use Rattle.exports.specs.Frames.{kindOf}
-use Rattle.exports.proofs.frames.kind_of.Statement.{statement}
-use Rattle.exports.proofs.frames.kind_of.Tie as tie
-
-pub kind-of-spec : {M : Type 1} → statement M
-unfolding kindOf
-kind-of-spec = tie.close (tie.spec (λ c. search picks) (λ c. search picks))

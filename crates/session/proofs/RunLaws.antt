@@ -1,0 +1,168 @@
+-- The run of a session, request by request, as the loop goes. Assumes nothing.
+use mathlib.Core.Path.{_≡_, refl, sym, _∙_, ap}
+use mathlib.Core.List.{List, _∷_, _++_, append-assoc, append-nil}
+use Prim.Native.Nat.{ℕ, zero, suc, _+_, _-_, _*_, _<_, _≤_}
+use native.Mathlib.Nat.{add-assoc, sub-zero, add-zero, zero-add}
+use native.Mathlib.Omega.{arith}
+use lib.ListN.{length, take, drop, length-append, length-drop, take-append-drop}
+use lib.Seq.{take-at, drop-at, take-append-add, drop-append-add, drop-drop, take-take, length-take-le}
+use borrow.Author.Tests.{eq-eqb, ne-eqb}
+use Rattle.laws.specs.Splice.{rest, rest-end}
+use Rattle.laws.specs.Runs.{ends, log}
+use Rattle.wire.specs.Number.{bytes}
+use Rattle.wire.proofs.NumberLaws.{length-bytes}
+use Rattle.state.specs.State.{State}
+use Rattle.header.specs.Sent.{Request}
+use Rattle.service.specs.Serve.{Store}
+use Rattle.dispatch.specs.Request.{Point, point, handled}
+use Rattle.claims.specs.Run.{Exchange, Entry, End, exchangeOf, step, entryOf, run}
+use Rattle.frames.specs.declared.Framing.{Framing}
+use Rattle.frames.specs.Frames.{prefixSize, firstSize, firstOf, behindFirst, requestIn, requestsOf}
+use Rattle.session.specs.Session.{withReplies, codeOf, lineOf, linesOf, Ran, ran, shown, ranFrom, Recorded, records, afterFramed, beforeRests, afterFirst}
+use Rattle.frames.proofs.FramesLaws.{first-prefix}
+
+-- a run's bytes behind those of the requests before it
+abbrev pub behindDone : ℕ → List ℕ → List ℕ → Ran → Ran
+behindDone count session lines r = ran (count + r .count) (r .store) (session ++ r .session) (lines ++ r .lines)
+
+-- ---- the first request of a run
+
+-- a run with one entry more before it
+shown-more : (f : Framing) (e : Entry) (end : End) (session lines : List ℕ)
+    → shown f (record { point = end .point; log = e ∷ end .log }) session lines
+    ≡ behindDone 1 (take (prefixSize f) session ++ e .exchange .reply .buffer) (lineOf (e .exchange)) (shown f end (behindFirst f session) (drop 8 lines))
+unfolding shown withReplies linesOf
+shown-more f e end session lines =
+    let n : ℕ = length (end .log) in
+    let c : suc n ≡ 1 + n = omega arith in
+    let w : 8 * suc n ≡ 8 + 8 * n = omega arith in
+    let d : drop (8 * suc n) lines ≡ drop (8 * n) (drop 8 lines) = rw (w, drop-drop) refl in
+    rw (d, c, append-assoc (take (prefixSize f) session), append-assoc (lineOf (e .exchange))) refl
+
+module _ (f : Framing) (p : Point) (session lines : List ℕ) where
+  ran-full : ranFrom f 0 p session lines ≡ ran 0 (p .store) session lines
+  unfolding ranFrom requestsOf ends log shown withReplies linesOf
+  ran-full = refl
+
+  -- none stands there
+  ran-none : (room : ℕ) → firstSize f session ≡ 0 → ranFrom f room p session lines ≡ ran 0 (p .store) session lines
+  unfolding ranFrom requestsOf ends log shown withReplies linesOf
+  ran-none zero h = refl
+  ran-none (suc room) h = rw (eq-eqb (firstSize f session) 0 h) refl
+
+  abbrev first : Recorded
+  first = afterFramed f p (firstOf f session)
+
+  line-size : length (first .line) ≡ 8
+  unfolding afterFramed
+  line-size =
+      let x : Exchange = exchangeOf (requestIn f (firstOf f session)) (handled p (requestIn f (firstOf f session))) in
+      length-append (bytes 4 (x .reply .call)) (bytes 4 (codeOf x)) ∙ rw (length-bytes, length-bytes) refl
+
+  ran-more : (room : ℕ) → (firstSize f session ≡ 0 → ⊥)
+      → ranFrom f (suc room) p session lines ≡ behindDone 1 (first .bytes) (first .line) (ranFrom f room (first .point) (behindFirst f session) (drop 8 lines))
+  unfolding ranFrom requestsOf ends log afterFramed
+  ran-more room h =
+      let r : Request = requestIn f (firstOf f session) in
+      rw (ne-eqb (firstSize f session) 0 h, take-take (prefixSize f) (firstSize f session) session (first-prefix f session (firstSize f session) refl h))
+      (shown-more f (entryOf p r) (run (step p r) (requestsOf f room (behindFirst f session))) session lines)
+
+  -- the same, by what it left in the whole session and the whole record
+  ran-first : (size : ℕ) → size ≡ firstSize f session → size ≤ length session → (size ≡ 0 → ⊥) → (q : Point) (session′ lines′ : List ℕ)
+      → records q session′ lines′ ≡ afterFirst f size p session lines → length session′ ≡ length session → (room : ℕ)
+      → ranFrom f (suc room) p session lines ≡ behindDone 1 (take size session′) (take 8 lines′) (ranFrom f room q (drop size session′) (drop 8 lines′))
+  unfolding afterFirst
+  ran-first size s b h q session′ lines′ e l room =
+      let k : ℕ = firstSize f session in
+      let d : records q session′ lines′ ≡ beforeRests (drop k session) (drop 8 lines) first = rw s at e in
+      let a : session′ ≡ first .bytes ++ drop k session = ap (λ (x : Recorded). x .bytes) d in
+      let c : lines′ ≡ first .line ++ drop 8 lines = ap (λ (x : Recorded). x .line) d in
+      let n : length (first .bytes) ≡ k = omega (arith, simp (length-append, length-drop) at (ap length a)) in
+      rw (
+        s,
+        a,
+        c,
+        take-at (first .bytes) (drop k session) k n,
+        drop-at (first .bytes) (drop k session) k n,
+        take-at (first .line) (drop 8 lines) 8 line-size,
+        drop-at (first .line) (drop 8 lines) 8 line-size,
+        ap (λ (x : Recorded). x .point) d,
+      )
+      (ran-more room (λ z. h (s ∙ z)))
+
+-- ---- the loop
+
+-- a run of which so many requests are done, up to an index of the session
+abbrev pub ranAfter : Framing → ℕ → Point → List ℕ → List ℕ → ℕ → ℕ → Ran
+ranAfter f room p session lines at count =
+    behindDone count (take at session) (take (8 * count) lines) (ranFrom f (room - count) p (drop at session) (drop (8 * count) lines))
+
+pub run-starts : (f : Framing) (room : ℕ) (p : Point) (session lines : List ℕ) → ranFrom f room p session lines ≡ ranAfter f room p session lines 0 0
+run-starts f room p session lines = rw (sub-zero, zero-add) refl
+
+-- a rest that was lent, and the whole as it comes back
+abbrev lent : List ℕ → ℕ → List ℕ
+lent l at = take (length l - at) (drop at l)
+
+abbrev back : List ℕ → ℕ → List ℕ → List ℕ
+back l at s = take at l ++ (s ++ drop (length l - at) (drop at l))
+
+module _ (l s : List ℕ) (at n : ℕ) (h : at ≤ length l) where
+  back-whole : back l at s ≡ take at l ++ s
+  back-whole = rw (rest-end l at, append-nil) refl
+
+  take-back : take (at + n) (back l at s) ≡ take at l ++ take n s
+  take-back = rw back-whole (rw (length-take-le at l h) at (take-append-add (take at l) s n))
+
+  drop-back : drop (at + n) (back l at s) ≡ drop n s
+  drop-back = rw back-whole (rw (length-take-le at l h) at (drop-append-add (take at l) s n))
+
+-- one request more before a run
+behind-behind : (n : ℕ) (session session′ lines lines′ : List ℕ) (r : Ran)
+    → behindDone n session lines (behindDone 1 session′ lines′ r) ≡ behindDone (n + 1) (session ++ session′) (lines ++ lines′) r
+behind-behind n session session′ lines lines′ r =
+    rw (append-assoc session session′ (r .session), append-assoc lines lines′ (r .lines), add-assoc) refl
+
+module _ (f : Framing) (r : Ran) (s : State) (store : Store) (session lines : List ℕ) (at count room : ℕ)
+    (g : r ≡ ranAfter f room (point s store) session lines at count)
+  where
+    abbrev here : Point
+    here = point s store
+
+    ended : ranFrom f (room - count) here (drop at session) (drop (8 * count) lines) ≡ ran 0 store (drop at session) (drop (8 * count) lines)
+        → ran count store session lines ≡ r
+    ended e =
+        sym (g
+        ∙ ap (behindDone count (take at session) (take (8 * count) lines)) e
+        ∙ rw (take-append-drop at session, take-append-drop (8 * count) lines, add-zero) refl)
+
+    -- no room is left
+    pub run-full : count ≤ room → room ≤ count → ran count store session lines ≡ r
+    run-full h k = let z : room - count ≡ 0 = omega arith in ended (rw z (ran-full f here (drop at session) (drop (8 * count) lines)))
+
+    module _ (size : ℕ) (n : size ≡ firstSize f (lent session at)) where
+      -- no whole request stands next
+      pub run-ends : size ≡ 0 → ran count store session lines ≡ r
+      run-ends z =
+          ended (ran-none f here (drop at session) (drop (8 * count) lines) (room - count) (rw (rest session at) at (sym n ∙ z)))
+
+      -- a request is handled
+      pub run-goes-on : (size ≡ 0 → ⊥) → size ≤ length (lent session at) → at ≤ length session → count < room → 8 * room ≤ length lines
+          → (q : Point) (session′ lines′ : List ℕ) → records q session′ lines′ ≡ afterFirst f size here (lent session at) (lent lines (8 * count))
+          → length session′ ≡ length (lent session at)
+          → r ≡ ranAfter f room q (back session at session′) (back lines (8 * count) lines′) (at + size) (count + 1)
+      run-goes-on h b k c w q session′ lines′ e l =
+          let m : room - count ≡ suc (room - (count + 1)) = omega arith in
+          let v : 8 * (count + 1) ≡ 8 * count + 8 = omega arith in
+          rw (
+            v,
+            take-back session session′ at size k,
+            drop-back session session′ at size k,
+            take-back lines lines′ (8 * count) 8 (omega arith),
+            drop-back lines lines′ (8 * count) 8 (omega arith),
+          )
+          (g
+          ∙ ap (behindDone count (take at session) (take (8 * count) lines))
+          (rw (m, ← rest session at, ← rest lines (8 * count)) (ran-first f here (lent session at) (lent lines (8 * count)) size n b h q session′ lines′ e l (room - (count + 1))))
+          ∙ behind-behind count (take at session) (take size session′) (take (8 * count) lines) (take 8 lines′)
+          (ranFrom f (room - (count + 1)) q (drop size session′) (drop 8 lines′)))
