@@ -1,29 +1,32 @@
 -- The closing tally of a run counts the requests that were granted and denied, and two runs differ in it by the denied ones. Assumes nothing.
-use mathlib.Core.Path.{_≡_, refl, sym, _∙_, ap}
+use mathlib.Core.Path.{_≡_, refl, sym, _∙_, ap, subst}
 use mathlib.Core.Bool.{Bool, true, false, cond, _&&_}
 use mathlib.Core.List.{List, [], _∷_, _++_}
 use Prim.Native.Nat.{ℕ, suc, _+_, _<_, _≤_}
 use native.Mathlib.Nat.{zero-add}
 use native.Mathlib.Omega.{arith}
-use lib.Dec.{eqb}
+use lib.Dec.{eqb, ltb}
 use lib.ListN.{length, take}
 use borrow.Author.Tests.{eqb-true, eqb-false, ne-eqb}
-use Rattle.laws.specs.Choice.{by-bool, either-by, both-left}
+use Rattle.laws.specs.Choice.{by-bool, either, either-by, both-left}
 use Rattle.laws.specs.Cases.{All}
 use Rattle.laws.specs.Runs.{log, shownBy, undropped}
 use Rattle.codes.specs.Codes.{success, writeAttempted, shortBuffer}
 use Rattle.level.specs.declared.Level.{Level}
 use Rattle.tally.specs.declared.Line.{Line}
-use Rattle.tally.specs.Kinds.{LineKind, Granted, Denied, Otherwise, Short, is, isDenied, noCode}
+use Rattle.tally.specs.Kinds.{LineKind, Granted, Denied, Otherwise, Short, is, line, noCode}
+use Rattle.tally.proofs.RecordLaws.{Fits}
 use Rattle.tally.specs.Totals.{one, numberOf, tallyOf, Sums}
 use Rattle.tally.proofs.KindsLaws.{denied-granted, denied-otherwise, denied-short}
 use Rattle.tally.proofs.TotalsLaws.{sums}
+use Rattle.adapter.specs.Adapter.{mediumSize}
+use Rattle.state.specs.State.{stateHolds}
 use Rattle.header.specs.Form.{returnCode, withCode}
 use Rattle.header.specs.Sent.{Request, formOf, controlOf, bodyOf, refusedByLevel, checksCode}
 use Rattle.header.proofs.FormLaws.{code-shown, header-kept}
 use Rattle.header.proofs.SentLaws.{form-room, checks-other}
 use Rattle.service.specs.Serve.{Served, served}
-use Rattle.dispatch.specs.Request.{Point, Outcome, outcome, Pending, callNumber, pointNumber, replied, answered, answeredAt, handled}
+use Rattle.dispatch.specs.Request.{Point, Outcome, Pending, stateNumber, bufferNumber, callNumber, pointNumber, replied, answered, answeredAt, handled}
 use Rattle.dispatch.proofs.Laws.{heard-buffer}
 use Rattle.claims.specs.Run.{Exchange, Entry, End, exchangeOf, step, denied, run, openedAt, exchanges, notDenied}
 use Rattle.claims.specs.LastWriter.{granted}
@@ -44,45 +47,61 @@ granted-line x =
     ≡ b && eqb (returnCode (formOf (x .sent)) (x .reply .buffer)) success) refl refl (eqb (x .reply .call) 0)
 
 module _ (p : Point) (r : Request) where
-  -- a line with a code that is not 4
-  abbrev Undenied : Outcome → Type 0
-  Undenied o = is Denied (lineOf (exchangeOf r o)) ≡ false
+  abbrev ownLine : Line
+  ownLine = lineOf (exchangeOf r (handled p r))
 
-  room : callNumber p r ≡ 0 → formOf r .size ≤ length (r .buffer)
-  room e = heard-buffer (formOf r) (pointNumber p) (length (r .buffer)) (callNumber p r) refl e
+  number-small : callNumber p r ≤ 107
+  unfolding bufferNumber stateNumber
+  number-small =
+      either Small (eqb (pointNumber p) 0) (either Small (ltb (length (r .buffer)) (formOf r .size)) (omega arith) (omega arith))
+      (either Small (stateHolds (p .state)) (either Small (eqb (mediumSize (p .state .adapter)) (length (p .store .medium))) (omega arith) (omega arith)) (omega arith))
+    where
+      Small : ℕ → Type 0
+      Small n = n ≤ 107
 
-  -- a return code that is written shows
-  undenied : (buffer : List ℕ) (code : ℕ) → formOf r .size ≤ length buffer → Own code → Undenied (outcome 0 p (withCode (formOf r) buffer code))
-  unfolding codeOf
-  undenied buffer code l own = rw (code-shown (formOf r) (form-room r) buffer code l (omega arith)) (ne-eqb code writeAttempted (own .1))
+  room : eqb (callNumber p r) 0 ≡ true → formOf r .size ≤ length (r .buffer)
+  room e = heard-buffer (formOf r) (pointNumber p) (length (r .buffer)) (callNumber p r) refl (eqb-true (callNumber p r) 0 e)
 
-  undenied-line : denied p r ≡ false → Undenied (handled p r)
+  -- the ways that the line of a request that is not denied can read
+  undenied-by : (P : Line → Type 0) → ((call : ℕ) → 0 < call → call ≤ 107 → P (line call noCode)) → ((code : ℕ) → Own code → P (line 0 code)) → denied p r ≡ false
+      → P ownLine
   unfolding handled answeredAt answered denied codeOf
-  undenied-line d =
+  undenied-by P number answer d =
       let level : Level = p .state .level in
-      either-by Undenied (eqb (callNumber p r) 0)
-      (λ z. let long : formOf r .size ≤ length (r .buffer) = room (eqb-true (callNumber p r) 0 z) in
+      let s : Served = served (p .state .adapter) (p .store) (controlOf r) (bodyOf r) in
+      either-by (λ (o : Outcome). P (lineOf (exchangeOf r o))) (eqb (callNumber p r) 0)
+      (λ z. let long : formOf r .size ≤ length (r .buffer) = room z in
       let n : checksCode level r ≤ 3 = checks-other level r (rw z at d) in
-      either-by (λ (x : Pending). Undenied (replied (formOf r) level x)) (eqb (checksCode level r) success)
-      (λ _. undenied (take (formOf r .size) (r .buffer) ++ served (p .state .adapter) (p .store) (controlOf r) (bodyOf r) .body) _
-      (header-kept (formOf r) (form-room r) (r .buffer) (served (p .state .adapter) (p .store) (controlOf r) (bodyOf r) .body) long)
+      either-by (λ (x : Pending). P (lineOf (exchangeOf r (replied (formOf r) level x)))) (eqb (checksCode level r) success)
+      (λ _. shows (take (formOf r .size) (r .buffer) ++ s .body) (s .code) (header-kept (formOf r) (form-room r) (r .buffer) (s .body) long)
       (served-own (p .state .adapter) (p .store) (controlOf r) (bodyOf r)))
-      (λ _. undenied (r .buffer) (checksCode level r) long (omega arith, λ e. omega arith)))
-      (λ z. rw z refl)
+      (λ _. shows (r .buffer) (checksCode level r) long (omega arith, λ e. omega arith)))
+      (λ z. let n : (callNumber p r ≡ 0 → ⊥) = eqb-false (callNumber p r) 0 z in
+      rw z (number (callNumber p r) (omega arith) number-small))
+    where
+      -- a return code that is written
+      shows : (buffer : List ℕ) (code : ℕ) → formOf r .size ≤ length buffer → Own code → P (line 0 (returnCode (formOf r) (withCode (formOf r) buffer code)))
+      shows buffer code l own = rw (code-shown (formOf r) (form-room r) buffer code l (omega arith)) (answer code own)
 
-  denied-heard : denied p r ≡ true → eqb (callNumber p r) 0 ≡ true
-  unfolding denied
-  denied-heard = both-left (eqb (callNumber p r) 0) (refusedByLevel (p .state .level) r)
-
-  is-denied : denied p r ≡ true → is Denied (lineOf (exchangeOf r (handled p r))) ≡ true
-  unfolding codeOf
-  is-denied d =
-      let l : formOf r .size ≤ length (r .buffer) = room (eqb-true (callNumber p r) 0 (denied-heard d)) in
+  denied-reads : denied p r ≡ true → ownLine ≡ line 0 writeAttempted
+  unfolding codeOf denied
+  denied-reads d =
+      let l : formOf r .size ≤ length (r .buffer) = room (both-left (eqb (callNumber p r) 0) (refusedByLevel (p .state .level) r) d) in
       rw (denied-step p r d, code-shown (formOf r) (form-room r) (r .buffer) writeAttempted l (omega arith)) refl
 
-  denied-line : is Denied (lineOf (exchangeOf r (handled p r))) ≡ denied p r
+  -- 4 says denied
+  denied-line : is Denied ownLine ≡ denied p r
   denied-line =
-      by-bool (λ (b : Bool). denied p r ≡ b → is Denied (lineOf (exchangeOf r (handled p r))) ≡ b) is-denied undenied-line (denied p r) refl
+      by-bool (λ (b : Bool). denied p r ≡ b → is Denied ownLine ≡ b) (λ d. subst (λ (l : Line). is Denied l ≡ true) (sym (denied-reads d)) refl)
+      (undenied-by (λ (l : Line). is Denied l ≡ false) (λ call z _. rw (ne-eqb call 0 (λ e. omega arith)) refl) (λ code own. ne-eqb code writeAttempted (own .1)))
+      (denied p r) refl
+
+  -- both numbers are of 32 bits
+  pub line-fits : Fits ownLine
+  line-fits =
+      by-bool (λ (b : Bool). denied p r ≡ b → Fits ownLine) (λ d. subst Fits (sym (denied-reads d)) (omega arith, omega arith))
+      (undenied-by Fits (λ call _ k. (omega arith, omega arith)) (λ code own. let k : code ≤ 2014 = own .0 in (omega arith, omega arith)))
+      (denied p r) refl
 
 -- ---- the lines of a run
 

@@ -2,3 +2,4 @@
 pub mod RequestLaws
 pub mod RunLaws
 pub mod StateLaws
+pub mod TallyLaws

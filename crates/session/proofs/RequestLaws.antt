@@ -22,7 +22,8 @@ use Rattle.dispatch.proofs.Laws.{heard-state, heard-medium, heard-room}
 use Rattle.frames.specs.declared.Framing.{Framing}
 use Rattle.frames.specs.declared.Prefix.{Prefix}
 use Rattle.frames.specs.Frames.{prefixSize, prefixOf, kindOf}
-use Rattle.session.specs.Session.{codeOf, Recorded, records, afterRequest, behindPrefix, afterFramed, beforeRests, afterFirst}
+use Rattle.claims.specs.ClosingTally.{codeOf}
+use Rattle.session.specs.Session.{Recorded, records, afterRequest, behindPrefix, afterFramed, beforeRests, afterFirst}
 
 -- ---- a line of the record
 

@@ -18,7 +18,9 @@ use Rattle.dispatch.specs.Request.{Point, point, handled}
 use Rattle.claims.specs.Run.{Exchange, Entry, End, exchangeOf, step, entryOf, run}
 use Rattle.frames.specs.declared.Framing.{Framing}
 use Rattle.frames.specs.Frames.{prefixSize, firstSize, firstOf, behindFirst, requestIn, requestsOf}
-use Rattle.session.specs.Session.{withReplies, codeOf, lineOf, linesOf, Ran, ran, shown, ranFrom, Recorded, records, afterFramed, beforeRests, afterFirst}
+use Rattle.tally.specs.Record.{lineBytes}
+use Rattle.claims.specs.ClosingTally.{codeOf, lineOf}
+use Rattle.session.specs.Session.{withReplies, recordOf, Ran, ran, shown, ranFrom, Recorded, records, afterFramed, beforeRests, afterFirst}
 use Rattle.frames.proofs.FramesLaws.{first-prefix}
 
 -- a run's bytes behind those of the requests before it
@@ -30,23 +32,23 @@ behindDone count session lines r = ran (count + r .count) (r .store) (session ++
 -- a run with one entry more before it
 shown-more : (f : Framing) (e : Entry) (end : End) (session lines : List ℕ)
     → shown f (record { point = end .point; log = e ∷ end .log }) session lines
-    ≡ behindDone 1 (take (prefixSize f) session ++ e .exchange .reply .buffer) (lineOf (e .exchange)) (shown f end (behindFirst f session) (drop 8 lines))
-unfolding shown withReplies linesOf
+    ≡ behindDone 1 (take (prefixSize f) session ++ e .exchange .reply .buffer) (lineBytes (lineOf (e .exchange))) (shown f end (behindFirst f session) (drop 8 lines))
+unfolding shown withReplies recordOf
 shown-more f e end session lines =
     let n : ℕ = length (end .log) in
     let c : suc n ≡ 1 + n = omega arith in
     let w : 8 * suc n ≡ 8 + 8 * n = omega arith in
     let d : drop (8 * suc n) lines ≡ drop (8 * n) (drop 8 lines) = rw (w, drop-drop) refl in
-    rw (d, c, append-assoc (take (prefixSize f) session), append-assoc (lineOf (e .exchange))) refl
+    rw (d, c, append-assoc (take (prefixSize f) session), append-assoc (lineBytes (lineOf (e .exchange)))) refl
 
 module _ (f : Framing) (p : Point) (session lines : List ℕ) where
   ran-full : ranFrom f 0 p session lines ≡ ran 0 (p .store) session lines
-  unfolding ranFrom requestsOf ends log shown withReplies linesOf
+  unfolding ranFrom requestsOf ends log shown withReplies recordOf
   ran-full = refl
 
   -- none stands there
   ran-none : (room : ℕ) → firstSize f session ≡ 0 → ranFrom f room p session lines ≡ ran 0 (p .store) session lines
-  unfolding ranFrom requestsOf ends log shown withReplies linesOf
+  unfolding ranFrom requestsOf ends log shown withReplies recordOf
   ran-none zero h = refl
   ran-none (suc room) h = rw (eq-eqb (firstSize f session) 0 h) refl
 

@@ -1,16 +1,14 @@
 -- The run of a session, as bytes (document 01, "Starred cases", its last paragraphs, and "Two runs and the last writer"): the replies in their
 -- requests' places, and a record of call numbers and return codes. Assumes nothing.
-use mathlib.Core.Bool.{cond}
 use mathlib.Core.List.{List, [], _∷_, _++_}
 use Prim.Native.Nat.{ℕ, _*_, _/_}
-use lib.Dec.{eqb}
 use lib.ListN.{length, take, drop}
-use Rattle.wire.specs.Number.{bytes}
-use Rattle.header.specs.Form.{returnCode}
-use Rattle.header.specs.Sent.{Request, formOf}
+use Rattle.tally.specs.Record.{lineBytes}
+use Rattle.header.specs.Sent.{Request}
 use Rattle.service.specs.Serve.{Store}
 use Rattle.dispatch.specs.Request.{Point, Outcome, handled}
-use Rattle.claims.specs.Run.{Exchange, Entry, End, exchangeOf, run, wholeRun}
+use Rattle.claims.specs.Run.{Entry, End, exchangeOf, run, wholeRun}
+use Rattle.claims.specs.ClosingTally.{lineOf}
 use Rattle.frames.specs.declared.Framing.{Framing}
 use Rattle.frames.specs.Frames.{prefixSize, behindFirst, requestIn, requestsOf}
 
@@ -21,17 +19,10 @@ unfoldable pub withReplies : Framing → List Entry → List ℕ → List ℕ
 withReplies f [] session = session
 withReplies f (e ∷ log) session = take (prefixSize f) session ++ (e .exchange .reply .buffer ++ withReplies f log (behindFirst f session))
 
--- the return code, where the request's own header has it; where the call gives a number none is written, and FFFFFFFFh stands for it
-unfoldable pub codeOf : Exchange → ℕ
-codeOf x = cond (eqb (x .reply .call) 0) (returnCode (formOf (x .sent)) (x .reply .buffer)) 4294967295
-
--- a request's call number and return code
-abbrev pub lineOf : Exchange → List ℕ
-lineOf x = bytes 4 (x .reply .call) ++ bytes 4 (codeOf x)
-
-unfoldable pub linesOf : List Entry → List ℕ
-linesOf [] = []
-linesOf (e ∷ log) = lineOf (e .exchange) ++ linesOf log
+-- a line for each request: its call number and return code
+unfoldable pub recordOf : List Entry → List ℕ
+recordOf [] = []
+recordOf (e ∷ log) = lineBytes (lineOf (e .exchange)) ++ recordOf log
 
 -- the number of requests handled, and what is lent beside the state, the session and the record afterwards
 pub record Ran : Type 0 where
@@ -46,7 +37,7 @@ ran count store session lines = record { count = count; store = store; session =
 -- a run's end, in a session and a record; what the record has past the requests stays
 unfoldable pub shown : Framing → End → List ℕ → List ℕ → Ran
 shown f end session lines =
-    ran (length (end .log)) (end .point .store) (withReplies f (end .log) session) (linesOf (end .log) ++ drop (8 * length (end .log)) lines)
+    ran (length (end .log)) (end .point .store) (withReplies f (end .log) session) (recordOf (end .log) ++ drop (8 * length (end .log)) lines)
 
 -- "A run is an opening, then a list of requests": those of the session, as many as the record has room for. A line is 8 bytes
 unfoldable pub sessionRun : Framing → List ℕ → List ℕ → Store → List ℕ → List ℕ → Ran
@@ -69,7 +60,7 @@ records p bytes line = record { point = p; bytes = bytes; line = line }
 
 -- in a buffer of its own
 abbrev pub afterRequest : Request → Outcome → Recorded
-afterRequest r o = records (o .point) (o .buffer) (lineOf (exchangeOf r o))
+afterRequest r o = records (o .point) (o .buffer) (lineBytes (lineOf (exchangeOf r o)))
 
 -- behind its prefix
 abbrev pub behindPrefix : List ℕ → Recorded → Recorded

@@ -15,9 +15,6 @@ ghost use Rattle.dispatch.specs.Request.{point, stateNumber, answeredAt, handle
 ghost use Rattle.frames.specs.Frames.{prefixSize};
 ghost use Rattle.session.specs.Session.{records, afterRequest, afterFramed, afterFirst, ran, ranFrom, sessionRun};
 
-// What a line of the record has where no return code was written.
-const NO_CODE: u32 = 4294967295;
-
 // Writes a request's line of the record.
 fn write_line(line: &mut [u8], call: u32, code: u32)
     requires { ⌜ length (now line) ≡ 8 ⌝ }
@@ -62,7 +59,7 @@ fn record_request(
     if call == 0 {
         return record_reply(kind, state, medium, buffer, line);
     }
-    write_line(line, call, NO_CODE)
+    write_line(line, call, tally::NO_CODE)
 }
 
 // The same of a request behind its prefix.

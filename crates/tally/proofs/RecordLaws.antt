@@ -1,7 +1,7 @@
 -- What is proved of a record's lines and of the bytes of totals. Assumes nothing.
 use mathlib.Core.Path.{_≡_, refl, sym, _∙_, ap}
 use mathlib.Core.List.{List, [], _∷_, _++_, append-assoc}
-use Prim.Native.Nat.{ℕ, suc, _+_, _*_, _/_, _%_, _<_, _≤_}
+use Prim.Native.Nat.{ℕ, zero, suc, _+_, _*_, _/_, _%_, _<_, _≤_}
 use native.Mathlib.Nat.{le-antisymm, zero-add}
 use native.Mathlib.Numerals.{add-one}
 use native.Mathlib.Omega.{arith}
@@ -9,14 +9,14 @@ use lib.ListN.{length, length-append}
 use borrow.Author.Needs.{needs}
 use borrow.Author.Tests.{lt-ltb, le-ltb}
 use Rattle.codes.specs.Codes.{shortBuffer}
-use Rattle.laws.specs.Fill.{listTo, length-listTo}
-use Rattle.laws.specs.Splice.{splice, splice-next, length-splice}
+use Rattle.laws.specs.Fill.{listTo, length-listTo, listTo-same}
+use Rattle.laws.specs.Splice.{part, splice, splice-next, part-first, part-behind}
 use Rattle.wire.specs.Number.{bytes}
-use Rattle.wire.proofs.NumberLaws.{length-bytes}
+use Rattle.wire.proofs.NumberLaws.{length-bytes, number-bytes}
 use Rattle.tally.specs.declared.Line.{Line}
 use Rattle.tally.specs.declared.Totals.{Totals}
 use Rattle.tally.specs.Totals.{noTotals, numberOf, tallyOf, counted, Tallied}
-use Rattle.tally.specs.Record.{lineAt, linesIn, totalsBytes, wrote, tallied}
+use Rattle.tally.specs.Record.{lineBytes, lineAt, linesIn, totalsBytes, wrote, tallied}
 use Rattle.tally.proofs.TotalsLaws.{tally-more}
 
 -- ---- the loop over a record's lines
@@ -47,6 +47,44 @@ unfolding linesIn
 record-done lines t n k h j e p = p ∙ ap (λ (m : ℕ). tallyOf (listTo (lineAt lines) m)) (le-antisymm h j ∙ e)
 
 pub ruleset record-loop = (record-none, line-within, record-tallied, record-room, record-more, record-done, needs)
+
+-- ---- lines as bytes
+
+-- both numbers are of 32 bits
+abbrev pub Fits : Line → Type 0
+Fits l = (l .call < 4294967296) × (l .code < 4294967296)
+
+pub length-line : (l : Line) → length (lineBytes l) ≡ 8
+length-line l = length-append (bytes 4 (l .call)) (bytes 4 (l .code)) ∙ rw (length-bytes 4 (l .call), length-bytes 4 (l .code)) refl
+
+-- f 0, and then f 1, f 2, ..
+listTo-front : {A : Type 0} (f : ℕ → A) (n : ℕ) → listTo f (suc n) ≡ f 0 ∷ listTo (λ (i : ℕ). f (suc i)) n
+unfolding listTo
+listTo-front f zero = refl
+listTo-front f (suc n) = ap (λ (l : List _). l ++ (f (suc n) ∷ [])) (listTo-front f n)
+
+module _ (l : Line) (lines : List ℕ) where
+  first-line : Fits l → lineAt (lineBytes l ++ lines) 0 ≡ l
+  first-line h =
+      let a : List ℕ = bytes 4 (l .call) in
+      let b : List ℕ = bytes 4 (l .code) in
+      let p : part (lineBytes l ++ lines) 0 4 ≡ a = rw (append-assoc a b lines) (part-first a (b ++ lines) 4 (length-bytes 4 (l .call))) in
+      let q : part (lineBytes l ++ lines) 4 4 ≡ b = rw (append-assoc a b lines) (part-behind a (b ++ lines) 4 0 4 (length-bytes 4 (l .call)) ∙ part-first b lines 4 (length-bytes 4 (l .code))) in
+      rw (p, q, number-bytes 4 (l .call) (h .0), number-bytes 4 (l .code) (h .1)) refl
+
+  next-line : (k : ℕ) → lineAt (lineBytes l ++ lines) (suc k) ≡ lineAt lines k
+  next-line k =
+      let e : 8 * suc k ≡ 8 + 8 * k = omega arith in
+      let f : 8 * suc k + 4 ≡ 8 + (8 * k + 4) = omega arith in
+      rw (f, e, part-behind (lineBytes l) lines 8 (8 * k) 4 (length-line l), part-behind (lineBytes l) lines 8 (8 * k + 4) 4 (length-line l)) refl
+
+  -- a line before a record is its first
+  pub lines-more : (n : ℕ) → Fits l → length lines ≡ 8 * n → linesIn (lineBytes l ++ lines) ≡ l ∷ linesIn lines
+  unfolding linesIn
+  lines-more n h e =
+      let q : length lines / 8 ≡ n = omega (arith, e) in
+      let m : length (lineBytes l ++ lines) / 8 ≡ suc n = rw (length-append (lineBytes l) lines, length-line l) (omega (arith, e)) in
+      rw (q, m) (listTo-front (lineAt (lineBytes l ++ lines)) n ∙ rw (first-line h, listTo-same (λ (i : ℕ). lineAt (lineBytes l ++ lines) (suc i)) (lineAt lines) n (λ i _. next-line i)) refl)
 
 -- ---- totals as bytes
 
