@@ -10,16 +10,16 @@ use borrow.Author.Tests.{eq-eqb, ne-eqb}
 use Rattle.laws.specs.Splice.{rest, rest-end}
 use Rattle.laws.specs.Runs.{ends, log}
 use Rattle.wire.specs.Number.{bytes}
-use Rattle.wire.proofs.NumberLaws.{length-bytes}
 use Rattle.state.specs.State.{State}
 use Rattle.header.specs.Sent.{Request}
 use Rattle.service.specs.Serve.{Store}
 use Rattle.dispatch.specs.Request.{Point, point, handled}
-use Rattle.claims.specs.Run.{Exchange, Entry, End, exchangeOf, step, entryOf, run}
+use Rattle.claims.specs.Run.{Entry, End, exchangeOf, step, entryOf, run}
 use Rattle.frames.specs.declared.Framing.{Framing}
 use Rattle.frames.specs.Frames.{prefixSize, firstSize, firstOf, behindFirst, requestIn, requestsOf}
 use Rattle.tally.specs.Record.{lineBytes}
-use Rattle.claims.specs.ClosingTally.{codeOf, lineOf}
+use Rattle.tally.proofs.RecordLaws.{length-line}
+use Rattle.claims.specs.ClosingTally.{lineOf}
 use Rattle.session.specs.Session.{withReplies, recordOf, Ran, ran, shown, ranFrom, Recorded, records, afterFramed, beforeRests, afterFirst}
 use Rattle.frames.proofs.FramesLaws.{first-prefix}
 
@@ -58,8 +58,7 @@ module _ (f : Framing) (p : Point) (session lines : List ℕ) where
   line-size : length (first .line) ≡ 8
   unfolding afterFramed
   line-size =
-      let x : Exchange = exchangeOf (requestIn f (firstOf f session)) (handled p (requestIn f (firstOf f session))) in
-      length-append (bytes 4 (x .reply .call)) (bytes 4 (codeOf x)) ∙ rw (length-bytes, length-bytes) refl
+      length-line (lineOf (exchangeOf (requestIn f (firstOf f session)) (handled p (requestIn f (firstOf f session)))))
 
   ran-more : (room : ℕ) → (firstSize f session ≡ 0 → ⊥)
       → ranFrom f (suc room) p session lines ≡ behindDone 1 (first .bytes) (first .line) (ranFrom f room (first .point) (behindFirst f session) (drop 8 lines))
