@@ -3,9 +3,9 @@
 
    The simulator is two calls: ascheknopf_open opens an adapter, and ascheknopf_request handles one request, under the first header;
    ascheknopf_request_linux does so under the Linux header. ascheknopf_run opens an adapter and handles a whole session, and
-   ascheknopf_run_both a session of both headers. All work on bytes that the caller lends; they allocate nothing and keep nothing between
-   calls. Any bytes of any length may be given, as a state too: what is wrong gets its number. A buffer that is written must not overlap
-   another. A pointer may be null where its length is 0.
+   ascheknopf_run_both a session of both headers; ascheknopf_tally counts what the requests of a run came to. All work on bytes that the
+   caller lends; they allocate nothing and keep nothing between calls. Any bytes of any length may be given, as a state too: what is wrong
+   gets its number. A buffer that is written must not overlap another. A pointer may be null where its length is 0.
 
    text     the level text, such as "CSMI=Full;", without a final zero byte
    file     the adapter file; its byte 0 is the number of phys, 1 to 32 (the program's limit of 7 is not the library's)
@@ -14,6 +14,7 @@
    buffer   one request, which begins with the 28-byte SRB_IO_CONTROL of CSMI or with the 20-byte Linux header, and then its reply
    session  requests one after the other: for each a length of 4 bytes, then so many bytes; of both headers: 12 bytes, described below
    record   a line of 8 bytes for each request: 4 bytes the call's number, 4 bytes the return code
+   totals   how many lines of a record there are, and how many of each kind, ASCHEKNOPF_TOTALS_SIZE bytes, described below
 
    All numbers in these bytes are little-endian. A call's number is document 01's; a return code is that of section 10 of T10 04-284r0,
    CSMI, whose sections are cited below. */
@@ -172,6 +173,24 @@ size_t ascheknopf_run_both(const uint8_t *text, size_t text_len,
                            uint8_t *medium, size_t medium_len,
                            uint8_t *session, size_t session_len,
                            uint8_t *record, size_t record_len);
+
+/* The totals of a record: five numbers of 64 bits. Each line is of one kind, so the last four sum to the first. */
+#define ASCHEKNOPF_TOTALS_SIZE 40
+#define ASCHEKNOPF_TOTALS_REQUESTS 0           /* all lines */
+#define ASCHEKNOPF_TOTALS_GRANTED 8            /* number 0 and return code 0 */
+#define ASCHEKNOPF_TOTALS_DENIED 16            /* number 0 and return code 4 */
+#define ASCHEKNOPF_TOTALS_OTHERWISE_REFUSED 24 /* number 0 and any other return code, 2000 too; or any number but 0 and 100, such as 107,
+                                                  whatever stands in the place of its return code */
+#define ASCHEKNOPF_TOTALS_SHORT 32             /* number 100, whatever stands there */
+
+/* Counts the lines of a record and writes the totals: 0. A rest of the record under 8 bytes counts nowhere. Where fewer than
+   ASCHEKNOPF_TOTALS_SIZE bytes are lent for the totals it gives 100, and they stay as they were; bytes past these stay too. The record is
+   only read.
+
+   To tally a run, give the first 8 * n bytes of its record, where n is the number that the run gave: what the record has past them stays,
+   and is not the run's. After a refused opening every line is a 107, and so otherwise refused. */
+uint32_t ascheknopf_tally(const uint8_t *record, size_t record_len,
+                          uint8_t *totals, size_t totals_len);
 
 #ifdef __cplusplus
 }

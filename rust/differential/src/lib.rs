@@ -1,5 +1,5 @@
-//! Compares the proved library with the model on generated openings, states, requests and sessions, and tests both against the
-//! claims of document 01 about whole runs. Every input comes from a seed.
+//! Compares the proved library with the model on generated openings, states, requests, sessions and records, and tests both against
+//! the claims of document 01 about whole runs. Every input comes from a seed.
 
 pub mod adapter;
 pub mod case;
@@ -21,6 +21,7 @@ pub mod side;
 pub mod spinup;
 pub mod state;
 pub mod sweep;
+pub mod tally;
 pub mod text;
 pub mod two_runs;
 pub mod wire;

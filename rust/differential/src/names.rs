@@ -1,6 +1,6 @@
-//! Numbers and offsets: the model's, the library's prefixes and lines of a session, and what the comparison has besides.
+//! Numbers and offsets: the model's, the library's prefixes, lines and totals of a session, and what the comparison has besides.
 
-pub use library::{prefix, record};
+pub use library::{prefix, record, totals};
 pub use model::codes::{
     ata, device, direction, fis_type, link_error, pinout, rate, status, NOT_GIVEN,
 };

@@ -100,7 +100,8 @@ impl Pair {
     }
 }
 
-fn equal_numbers(library: u32, model: u32) -> Result<(), String> {
+/// The call's numbers of the two sides are equal.
+pub fn equal_numbers(library: u32, model: u32) -> Result<(), String> {
     if library == model {
         return Ok(());
     }

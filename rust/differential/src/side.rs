@@ -1,7 +1,7 @@
-//! The implementations behind the same functions: an opening, a request, and a run.
+//! The implementations behind the same functions: an opening, a request, a run, and the tally of a record.
 
 use crate::case::{Case, Outcome};
-use crate::names::{call, record, state};
+use crate::names::{call, record, state, totals};
 use crate::request::Header;
 use crate::run::{self, Written};
 use crate::wire::word;
@@ -52,6 +52,14 @@ impl Side {
         match self {
             Side::Library | Side::LibraryCalls => request_library(header, state, medium, buffer),
             _ => request_model(header, state, medium, buffer),
+        }
+    }
+
+    /// The tally of a record: the call's number, and the totals as the call leaves them.
+    pub fn tally(self, record: &[u8], totals: &mut [u8]) -> u32 {
+        match self {
+            Side::Library | Side::LibraryCalls => library::tally(record, totals),
+            _ => tally_model(record, totals),
         }
     }
 
@@ -123,6 +131,24 @@ fn request_model(header: Header, state: &mut [u8], medium: &mut [u8], buffer: &m
     let number = run::request(header, &mut held, medium, buffer);
     *state = held.to_bytes();
     number
+}
+
+/// Where there is no room for the totals it is 100, and what is lent stays.
+fn tally_model(record: &[u8], totals: &mut [u8]) -> u32 {
+    let Some(start) = totals.first_chunk_mut::<{ totals::SIZE }>() else {
+        return call::BUFFER_LENGTH;
+    };
+    let counted = model::Totals::of_record(record);
+    for (place, total) in [
+        (totals::REQUESTS, counted.requests),
+        (totals::GRANTED, counted.granted),
+        (totals::DENIED, counted.denied),
+        (totals::OTHERWISE_REFUSED, counted.otherwise_refused),
+        (totals::SHORT, counted.short),
+    ] {
+        start[place..place + 8].copy_from_slice(&(total as u64).to_le_bytes());
+    }
+    call::DONE
 }
 
 /// What the record holds of a reply.

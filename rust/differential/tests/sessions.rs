@@ -12,7 +12,8 @@ use differential::request::passthrough::Passthrough;
 use differential::request::{first, fis, linux, sound, Header, Request, HEADERS};
 use differential::session::{end::cut, Framing};
 use differential::wire::{put_word, word};
-use differential::{generate, names, need, text};
+use differential::{generate, names, need, tally, text};
+use library::Totals;
 use std::ops::Range;
 
 /// What both give for a case.
@@ -203,6 +204,14 @@ fn the_example_of_document_01() {
         .map(|one| (one.number, one.code))
         .collect();
     assert_eq!(answers, [(0, 0), (0, 4), (100, record::NO_CODE)]);
+    let totals = Totals {
+        requests: 3,
+        granted: 1,
+        denied: 1,
+        otherwise_refused: 0,
+        short: 1,
+    };
+    assert_eq!(tally::of_run(&case, &outcome), Ok(totals));
 }
 
 /// A phy whose device knows 9 alone is set to 8 alone: each link reset fails and counts, until the counter is at its end.

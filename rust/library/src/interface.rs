@@ -56,6 +56,13 @@ extern "C" {
         record: *mut u8,
         record_len: usize,
     ) -> usize;
+
+    pub fn ascheknopf_tally(
+        record: *const u8,
+        record_len: usize,
+        totals: *mut u8,
+        totals_len: usize,
+    ) -> u32;
 }
 
 /// Either run.

@@ -1,4 +1,4 @@
-//! The five functions of the proved static library, over slices. All `unsafe` code of this workspace is here.
+//! The six functions of the proved static library, over slices. All `unsafe` code of this workspace is here.
 
 /// The bytes of a state; `include/ascheknopf.h` says what each is.
 pub const STATE_SIZE: usize = 6181;
@@ -30,8 +30,10 @@ pub mod prefix {
 
 mod interface;
 mod tables;
+pub mod totals;
 
 pub use tables::*;
+pub use totals::Totals;
 
 /// Opens an adapter: the call's number. 0 writes the state, a refusal the zero state; a state of another length than
 /// `STATE_SIZE` is 107 and stays.
@@ -143,6 +145,20 @@ fn run_by(
             session.len(),
             record.as_mut_ptr(),
             record.len(),
+        )
+    }
+}
+
+/// Counts the lines of a record, a run's first ones, and writes the `totals`: 0. Where there is no room for them it gives 100, and the
+/// bytes lent for them stay.
+pub fn tally(record: &[u8], totals: &mut [u8]) -> u32 {
+    // As above; the totals are written.
+    unsafe {
+        interface::ascheknopf_tally(
+            record.as_ptr(),
+            record.len(),
+            totals.as_mut_ptr(),
+            totals.len(),
         )
     }
 }

@@ -3,12 +3,15 @@
 mod front_page;
 mod linux;
 mod spinup;
+mod tally;
 
 use super::*;
 use model::codes::control;
 use model::layout::file::{self, BLOCK, CHECK};
 use model::layout::{entity, header, linux_header, set_phy_info, state as at, DISK};
 
+/// The C header.
+const HEADER: &str = include_str!("../../../include/ascheknopf.h");
 const OTHER: u8 = 0x5A;
 /// The rates of the phy: minimum and maximum, programmed and hardware.
 const RATES: [u8; 2] = [0x88, 0x99];
@@ -48,6 +51,29 @@ fn file() -> [u8; 4 * BLOCK] {
 fn put(bytes: &mut [u8], at: usize, number: u32) {
     bytes[at..at + 4].copy_from_slice(&number.to_le_bytes());
 }
+
+/// A record of these lines.
+fn record(lines: &[[u32; 2]]) -> Vec<u8> {
+    let numbers = lines.as_flattened().iter();
+    numbers.flat_map(|number| number.to_le_bytes()).collect()
+}
+
+/// The places that `include/ascheknopf.h` defines with names that begin so, in their order.
+fn defined(tables: &[&str]) -> Vec<(&'static str, usize)> {
+    let number = |text: &str| text.split(' ').next()?.parse().ok();
+    HEADER
+        .lines()
+        .filter_map(|line| line.strip_prefix("#define ASCHEKNOPF_")?.split_once(' '))
+        .filter(|(name, _)| tables.iter().any(|table| name.starts_with(table)))
+        .map(|(name, text)| (name, number(text).expect(name)))
+        .collect()
+}
+
+/// Constants with their names.
+macro_rules! by_name {
+    ($($name:ident)*) => { [$((stringify!($name), $name)),*] };
+}
+use by_name;
 
 /// The file's state at a level.
 fn state(level: u8) -> [u8; STATE_SIZE] {

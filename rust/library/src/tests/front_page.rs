@@ -71,25 +71,12 @@ fn a_file_of_the_old_layout_is_102() {
     assert_eq!(lent, [0; STATE_SIZE]);
 }
 
-/// Constants with their names.
-macro_rules! by_name {
-    ($($name:ident)*) => { [$((stringify!($name), $name)),*] };
-}
-
 /// The constants here are those of `include/ascheknopf.h`, all that it has of these tables, and the model's.
 #[test]
 fn the_places_are_those_of_the_c_header() {
-    let header = include_str!("../../../../include/ascheknopf.h");
     let tables = ["STATE_SIZE", "CONTROLLER", "STATUS", "CONNECTOR_"];
-    let number = |text: &str| text.split(' ').next()?.parse::<usize>().ok();
-    let defined: Vec<(&str, usize)> = header
-        .lines()
-        .filter_map(|line| line.strip_prefix("#define ASCHEKNOPF_")?.split_once(' '))
-        .filter(|(name, _)| tables.iter().any(|table| name.starts_with(table)))
-        .map(|(name, text)| (name, number(text).expect(name)))
-        .collect();
     assert_eq!(
-        defined,
+        defined(&tables),
         by_name!(
             STATE_SIZE CONTROLLER CONTROLLER_SIZE CONTROLLER_BASE_IO CONTROLLER_BASE_MEMORY CONTROLLER_BOARD CONTROLLER_SLOT
             CONTROLLER_CLASS CONTROLLER_BUS_TYPE CONTROLLER_BUS_ADDRESS CONTROLLER_SERIAL CONTROLLER_FIRMWARE CONTROLLER_BIOS
@@ -99,7 +86,7 @@ fn the_places_are_those_of_the_c_header() {
     );
     let line =
         format!("#define ASCHEKNOPF_CONNECTOR(n) ({CONNECTOR} + {CONNECTOR_SIZE} * (size_t)(n))");
-    assert!(header.lines().any(|found| found == line), "{line}");
+    assert!(HEADER.lines().any(|found| found == line), "{line}");
     assert_eq!(at::CONTROLLER_CONFIG, CONTROLLER);
     assert_eq!(at::CONTROLLER_STATUS, STATUS);
     assert_eq!((at::CONNECTORS, at::SIZE), (CONNECTOR, STATE_SIZE));

@@ -89,12 +89,7 @@ fn a_session_of_both_headers() {
         framed(prefix::LINUX, 21, &replied(0)),
         framed(prefix::LINUX, 21, &[OTHER; 19]),
     ];
-    let lines = [[0, 4], [0, 0], [100, record::NO_CODE]];
-    let record: Vec<u8> = lines
-        .as_flattened()
-        .iter()
-        .flat_map(|number| number.to_le_bytes())
-        .collect();
+    let record = record(&[[0, 4], [0, 0], [100, record::NO_CODE]]);
     let (handled, after, lines) = ran(&session.concat());
     assert_eq!(
         (handled, after, &lines[..]),

@@ -1,7 +1,7 @@
 //! `long_run [REQUESTS] [SEED]`: random cases through both implementations, by the runs and by the calls, until so many requests were
-//! handled (a million if not said), with the properties of whole runs, of the two headers and of requests that report; then states that a
-//! caller made, every single-byte damage of a small file, and every single byte of two states altered. Prints the figures; the exit status
-//! is 1 if anything differed.
+//! handled (a million if not said), with the tally of each run and the properties of whole runs, of the two headers and of requests that
+//! report; then states that a caller made, every single-byte damage of a small file, and every single byte of two states altered. Prints
+//! the figures; the exit status is 1 if anything differed.
 
 mod runs;
 
@@ -9,7 +9,8 @@ use differential::coverage::counts;
 use differential::session::Framing;
 use differential::state::alter::{self, Values};
 use differential::state::made;
-use differential::sweep;
+use differential::{sweep, tally};
+use library::Totals;
 use runs::Runs;
 use std::process::ExitCode;
 use std::time::Instant;
@@ -41,6 +42,8 @@ struct Compared {
     call_requests: u64,
     openings: u64,
     alterations: u64,
+    /// Of the requests by the run.
+    totals: Totals,
     differences: usize,
 }
 
@@ -60,8 +63,16 @@ fn main() -> ExitCode {
         "compared: {} requests by the run, {} by the calls, {} openings, {} alterations of a state",
         compared.run_requests, compared.call_requests, compared.openings, compared.alterations
     );
+    println!("{}", tallied(&compared.totals));
     println!("{} differences", compared.differences);
     ExitCode::from(u8::from(compared.differences > 0))
+}
+
+fn tallied(totals: &Totals) -> String {
+    format!(
+        "tallied: {} requests by the run, {} granted, {} denied, {} otherwise refused, {} 100s",
+        totals.requests, totals.granted, totals.denied, totals.otherwise_refused, totals.short
+    )
 }
 
 fn arguments() -> Option<(u64, u64)> {
@@ -102,6 +113,10 @@ impl Compared {
         for what in runs.coverage.unknown() {
             runs.faults
                 .push(format!("unknown to the documents: {what}"));
+        }
+        match tally::agreed(&runs.lines) {
+            Ok(totals) => self.totals = totals,
+            Err(what) => runs.faults.push(format!("tally of all runs: {what}")),
         }
         println!(
             "{} requests in {round} cases, each by the run and by the calls; two runs, last writers and spin-up holds of {} lists more; \

@@ -1,14 +1,14 @@
-//! The random cases, and the claims about whole runs and about the two headers.
+//! The random cases, the tally of their records, and the claims about whole runs and about the two headers.
 
 use differential::adapter::Adapter;
-use differential::case::Case;
+use differential::case::{Case, Outcome};
 use differential::compare::{compare, Difference};
 use differential::coverage::Coverage;
 use differential::random::Random;
 use differential::session::Framing;
 use differential::side::{CALLS, SIDES};
 use differential::two_runs::{check, check_denied, check_each, check_read_only, Level, Start};
-use differential::{generate, last_writer, reporting, sameness, spinup, text};
+use differential::{generate, last_writer, reporting, sameness, spinup, tally, text};
 
 /// The most requests of a case, the requests of a list, the bodies behind both headers, the requests that report.
 const CASE: usize = 120;
@@ -19,6 +19,8 @@ const REPORTS: usize = 40;
 #[derive(Default)]
 pub struct Runs {
     pub coverage: Coverage,
+    /// The lines of all runs.
+    pub lines: Vec<u8>,
     pub properties: u64,
     pub twins: u64,
     pub reports: u64,
@@ -29,13 +31,22 @@ impl Runs {
     pub fn compare(&mut self, seed: u64, framing: Framing) {
         let case = generate::case(seed, CASE, framing);
         match compare(&case) {
-            Ok(outcome) => self.coverage.count(&case, &outcome),
+            Ok(outcome) => {
+                self.coverage.count(&case, &outcome);
+                self.tally(&case, &outcome);
+            }
             Err(Difference { seed, what }) => {
                 // So that a run in which everything differs ends too.
                 self.coverage.requests += 1;
                 self.faults.push(format!("seed {seed}: {what}"));
             }
         }
+    }
+
+    fn tally(&mut self, case: &Case, outcome: &Outcome) {
+        self.lines.extend(tally::lines(outcome));
+        let totals = tally::of_run(case, outcome).map(drop);
+        self.note(&format!("seed {}, tally", case.seed), totals);
     }
 
     /// Two runs, the last writers and the spin-up holds of a list.
