@@ -13,9 +13,9 @@ use Rattle.laws.specs.Clear.{zeros, cleared-all}
 use Rattle.laws.specs.Fill.{listTo, length-listTo}
 use Rattle.wire.specs.Number.{bytes}
 use Rattle.state.specs.State.{stateSize}
-use Rattle.case_lines.specs.Fields.{fieldOf, numberOf, decimal, words, behind, upTo}
-use Rattle.case_lines.specs.Patch.{patched, putAll, putWord, put, bytesOf}
-use Rattle.case_lines.proofs.PatchLaws.{put-none, put-more}
+use Rattle.case_words.specs.Fields.{fieldOf, numberOf, decimal, words, behind, upTo}
+use Rattle.case_words.specs.Patch.{patched, putAll, putWord, put, bytesOf}
+use Rattle.case_words.proofs.PatchLaws.{put-none, put-more}
 use Rattle.case_lines.specs.Lines.{countLine, patternAt, filledBy, blockLine, headStart, headerPut, requestBytes}
 
 -- ---- a loop that fills with a pattern

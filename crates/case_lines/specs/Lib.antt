@@ -1,4 +1,2 @@
 pub mod Digest
-pub mod Fields
-pub mod Patch
 pub mod Lines

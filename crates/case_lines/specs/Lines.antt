@@ -8,8 +8,8 @@ use Rattle.laws.specs.Splice.{splice}
 use Rattle.laws.specs.Clear.{zeros}
 use Rattle.laws.specs.Fill.{listTo}
 use Rattle.wire.specs.Number.{bytes}
-use Rattle.case_lines.specs.Fields.{fieldOf}
-use Rattle.case_lines.specs.Patch.{patched}
+use Rattle.case_words.specs.Fields.{fieldOf}
+use Rattle.case_words.specs.Patch.{patched}
 
 -- y PHY AT:HEX ..: the phy of a block that has these bytes
 unfoldable pub phyLine : List ℕ → List ℕ → List ℕ

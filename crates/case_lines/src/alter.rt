@@ -2,15 +2,15 @@
 use crate::CONNECTORS;
 use crate::PHYS;
 use crate::ROWS;
-use crate::line::field;
-use crate::line::patch;
+use case_words::field;
+use case_words::patch;
 ghost use mathlib.Core.Path.{_≡_};
 ghost use Prim.Native.Nat.{_+_, _≤_};
 ghost use lib.ListN.{length};
 ghost use Rattle.laws.specs.Splice.{splice};
 ghost use Rattle.laws.specs.Clear.{zeros};
 ghost use Rattle.state.specs.State.{stateSize};
-ghost use Rattle.case_lines.specs.Patch.{patched};
+ghost use Rattle.case_words.specs.Patch.{patched};
 ghost use Rattle.case_lines.specs.Lines.{phyLine, rowLine, connectorLine, countLine, damaged};
 
 // The words from word 2 on, over zeros.

@@ -13,11 +13,11 @@
 //   # ..                               a heading, printed as it stands
 use case_lines::damage;
 use case_lines::digest;
-use case_lines::end;
-use case_lines::field;
-use case_lines::patch;
 use case_lines::state_digest;
-use case_lines::word;
+use case_words::end;
+use case_words::field;
+use case_words::patch;
+use case_words::word;
 use libc::STDIN_FILENO;
 use libc::STDOUT_FILENO;
 ghost use mathlib.Core.Path.{_≡_};
