@@ -1,10 +1,9 @@
 //! Runs the end-to-end cases: `cases SIMULATOR FOLDER`. The folder has `cases/*.case` and `adapters/NAME.txt`. One line for each
 //! case that fails, and the last line is `N passed, M failed`.
 
-mod case;
 mod run;
 
-use case::Case;
+use cases::case::Case;
 use std::path::{Path, PathBuf};
 use std::process::ExitCode;
 use std::{env, fs};
@@ -60,11 +59,39 @@ fn case_files(folder: &Path) -> Result<Vec<PathBuf>, String> {
 }
 
 fn run_file(simulator: &Path, folder: &Path, file: &Path, scratch: &Path) -> Result<(), String> {
+    run::run(&read(folder, file)?, simulator, scratch)
+}
+
+/// Reads a case of a folder.
+fn read(folder: &Path, file: &Path) -> Result<Case, String> {
     let text = fs::read_to_string(file).map_err(|error| error.to_string())?;
     let shared = |name: &str| {
         let path = folder.join("adapters").join(format!("{name}.txt"));
         fs::read_to_string(path).map_err(|_| format!("there is no adapter '{name}'"))
     };
-    let case = Case::parse(&text, shared).map_err(|fault| fault.to_string())?;
-    run::run(&case, simulator, scratch)
+    Case::parse(&text, shared).map_err(|fault| fault.to_string())
+}
+
+#[cfg(test)]
+mod tests {
+    use super::*;
+    use labkit::report::Transcript;
+
+    /// What each case expects is what the model prints, and the kit reads it.
+    #[test]
+    fn the_cases_are_confirmed_by_the_model() {
+        let folder = Path::new(env!("CARGO_MANIFEST_DIR")).join("../../tests/end_to_end");
+        let files = case_files(&folder.join("cases")).unwrap();
+        assert!(files.len() > 200);
+        for file in files {
+            let case = read(&folder, &file).unwrap();
+            for run in &case.runs {
+                let [text, adapter] = [&run.level, &case.adapter];
+                let [text, adapter] = [text, adapter].map(|bytes| bytes.as_deref().unwrap_or(&[]));
+                let printed = model::program(text, adapter, &case.session);
+                assert_eq!(run.prints, printed, "{}", file.display());
+                assert!(Transcript::parse(&printed).is_ok(), "{}", file.display());
+            }
+        }
+    }
 }

@@ -67,6 +67,7 @@ mod tests {
             header,
             call: 0,
             reply: reply.to_vec(),
+            record: Vec::new(),
         }
     }
 

@@ -13,7 +13,7 @@ use crate::row::Row;
 use crate::run::Run;
 use crate::verdict;
 use labkit::adapter::{warnings as adapter_warnings, PROGRAM_PHYS};
-use labkit::report::Difference;
+use labkit::report::{Difference, Total};
 use labkit::session::{Request, Session, STP_PASSTHRU};
 use std::collections::HashSet;
 use std::path::Path;
@@ -106,13 +106,20 @@ impl<'a> Marking<'a> {
         let contradiction = linux::contradiction(self);
         self.no_mark = verdict::after(contradiction, beside.past_header(), self.explained);
         self.warnings.extend(linux::warning(self));
-        replies.map_or(Ok(()), Replies::end)
+        replies.map_or(Ok(()), |replies| replies.end(&self.runs))
     }
 
     fn left_behind(&self) -> Vec<Left> {
         let states: Vec<&[u8]> = self.runs.iter().map(|run| run.state.as_slice()).collect();
         let media: Vec<&[u8]> = self.runs.iter().map(|run| run.medium.as_slice()).collect();
         left::left(&states, &media)
+    }
+
+    /// The tally of each run; nothing where the session was not run.
+    pub fn tallies(&self) -> Vec<Total> {
+        let opened = self.runs.iter().all(|run| run.opening == 0);
+        let ran = opened && self.rows.len() == self.requests.len();
+        self.runs.iter().filter(|_| ran).map(Run::tally).collect()
     }
 
     pub fn differing(&self) -> usize {

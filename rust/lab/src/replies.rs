@@ -1,7 +1,7 @@
 //! The requests and each run's replies written out, in the form of the session, and beside them the calls' numbers and return codes, a
-//! line for each request. `labkit reply` and `labkit session-text` read the first. The codes of requests with the first header are what
-//! the program prints, and `labkit compare` reads them. With Linux requests, which the program does not have and which run as Full in
-//! every run, they show no need, and their files have another name.
+//! line for each request, and their total. `labkit reply` and `labkit session-text` read the first. The codes of requests with the first
+//! header are what the program prints, and `labkit compare` reads them. With Linux requests, which the program does not have and which
+//! run as Full in every run, they show no need, and their files have another name.
 
 use crate::files::shown;
 use crate::marking::Marking;
@@ -63,10 +63,12 @@ impl Replies {
         Ok(())
     }
 
-    pub fn end(self) -> Result<(), String> {
+    /// Ends the files, the codes with the tallies of the runs.
+    pub fn end(self, runs: &[Run]) -> Result<(), String> {
         self.requests.end()?;
-        for (replies, codes) in self.runs {
+        for ((replies, mut codes), run) in self.runs.into_iter().zip(runs) {
             replies.end()?;
+            codes.write(format!("{}\n", run.tally()).as_bytes())?;
             codes.end()?;
         }
         Ok(())

@@ -2,7 +2,9 @@
 
 use crate::answer::Answer;
 use crate::state;
+use labkit::report::Total;
 use labkit::session::{Header, Request};
+use library::record::NO_CODE;
 
 /// A run as far as it has come.
 #[derive(Clone)]
@@ -17,6 +19,8 @@ pub struct Run {
     pub header: Header,
     pub call: u32,
     pub reply: Vec<u8>,
+    /// A line for each request, as the library's runs record it.
+    pub record: Vec<u8>,
 }
 
 impl Run {
@@ -30,6 +34,7 @@ impl Run {
             header: Header::Srb,
             call: 0,
             reply: Vec::new(),
+            record: Vec::new(),
         }
     }
 
@@ -48,10 +53,25 @@ impl Run {
             Header::Srb => library::request(state, medium, reply),
             Header::Linux { control } => library::request_linux(state, medium, control, reply),
         };
+        let code = self.answer().code.unwrap_or(NO_CODE);
+        let line = [self.call, code].map(u32::to_le_bytes);
+        self.record.extend_from_slice(line.as_flattened());
     }
 
     pub fn answer(&self) -> Answer {
         Answer::of(self.header, self.call, &self.reply)
+    }
+
+    /// What its requests came to: the library's tally of the record.
+    pub fn tally(&self) -> Total {
+        let totals = library::tally(&self.record);
+        Total([
+            totals.requests,
+            totals.granted,
+            totals.denied,
+            totals.otherwise_refused,
+            totals.short,
+        ])
     }
 
     /// Takes the state and the medium of another run.

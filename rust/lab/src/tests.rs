@@ -3,6 +3,7 @@
 
 mod linux;
 mod spin_up;
+mod tally;
 
 use crate::exercise::{Exercise, Text};
 use crate::files::Part;

@@ -19,7 +19,7 @@ labkit session TEXT FILE        makes a session from its description
 labkit session-text FILE TEXT   describes a session
 labkit reply REQUEST REPLY      shows a reply in words; both files hold a buffer in hexadecimal
 labkit reply REQUESTS REPLIES N shows reply N of files that './lab --replies FOLDER' writes
-labkit compare SESSION LOW HIGH shows the return codes that the program printed in two runs side by side
+labkit compare SESSION LOW HIGH shows the return codes that the program printed in two runs side by side, and their totals
 
 Of sessions whose requests have either header, as session.both has them:
 labkit session --both TEXT FILE

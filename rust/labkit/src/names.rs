@@ -25,11 +25,15 @@ pub const CONTROL_CODES: [(u32, &str); 18] = [
     (60, "phy-control"),
 ];
 
-/// The return code of a denied request, STATUS_WRITE_ATTEMPTED.
+/// The return codes of a granted request, and of a denied one, STATUS_WRITE_ATTEMPTED.
+pub const SUCCESS: u32 = 0;
 pub const DENIED: u32 = 4;
 
+/// The call's number for a buffer under its header.
+pub const BUFFER_SHORT: u32 = 100;
+
 const RETURN_CODES: [(u32, &str); 20] = [
-    (0, "success"),
+    (SUCCESS, "success"),
     (1, "failed"),
     (2, "bad control code"),
     (3, "invalid parameter"),
@@ -52,7 +56,7 @@ const RETURN_CODES: [(u32, &str); 20] = [
 ];
 
 const CALL_NUMBERS: [(u32, &str); 8] = [
-    (100, "buffer too short"),
+    (BUFFER_SHORT, "buffer too short"),
     (101, "bad level text"),
     (102, "file length"),
     (103, "block check"),

@@ -68,19 +68,21 @@ replies() {
         grep -qF '* data               5A*512' "$work/words" && grep -qF '(success)' "$work/words" &&
         "$kit" reply "$work/replies/requests" "$work/replies/low.replies" 4 | grep -qF '4 denied, write attempted'
 }
+# program SAMPLE LEVEL: what the program prints of a sample, at its low level or its high one.
+program() {
+    mkdir -p "$work/program" && cp "samples/$1/adapter.bin" "$work/program/" && cp "samples/$1/$2.txt" "$work/program/level.txt" &&
+        (cd "$work/program" && "$OLDPWD/$simulator") <"samples/$1/session"
+}
+# as_the_program SAMPLE FOLDER: what ./lab --replies wrote there are the codes that the program prints.
 as_the_program() {
-    local level
-    for level in low high; do
-        mkdir -p "$work/program" && cp samples/writes/adapter.bin "$work/program/" && cp "samples/writes/$level.txt" "$work/program/level.txt"
-        (cd "$work/program" && "$OLDPWD/$simulator") <samples/writes/session | diff - "$work/replies/$level.codes" || return 1
-    done
+    program "$1" low | diff - "$2/low.codes" && program "$1" high | diff - "$2/high.codes"
 }
 codes_compared() {
     "$kit" compare "$work/replies/requests" "$work/replies/low.codes" "$work/replies/high.codes" >"$work/printed" &&
         diff <(echo "codes: 8 of 12 differ, 6 denied low") <(tail -n 1 "$work/printed")
 }
 try "--replies, and labkit reply on them" replies
-try "the program prints the codes that the lab has" as_the_program
+try "the program prints the codes that the lab has" as_the_program writes "$work/replies"
 try "labkit compare on them" codes_compared
 try "labkit reply, no such request" refuses 1 "labkit: $work/replies/requests has requests 1 to 12, and no 13" "$kit" reply "$work/replies/requests" "$work/replies/low.replies" 13
 try "labkit reply, request 0" refuses 1 "labkit: $work/replies/requests has requests 1 to 12, and no 0" "$kit" reply "$work/replies/requests" "$work/replies/low.replies" 0
@@ -95,6 +97,7 @@ in_seconds() {
 }
 try "200,000 requests in seconds" in_seconds "$dir"
 try "no progress without a terminal" diff /dev/null "$work/errors"
+try "their tally" grep -qx '  denied  *100000  0' "$work/printed"
 progress() {
     script -qec "'$lab' '$1' >'$work/printed'" "$work/typed" >/dev/null
     [ $? -eq 1 ] && grep -aq 'lab: [0-9]* of 200000 requests' "$work/typed"

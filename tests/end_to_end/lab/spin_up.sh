@@ -40,14 +40,7 @@ try "labkit reply, one of a fixed phy" reply_has high 13 'phy 3              por
 try "labkit reply, a read of a held disk" reply_has low 5 'stp-passthru (25): 2008 connection failed'
 try "labkit reply, a read of one that was released" reply_has high 5 'stp-passthru (25): 0 success'
 try "labkit reply, the signature of a held disk" reply_has low 3 '* signature-fis      3400500101000000000000000100000000000000'
-held_as_the_program() {
-    local level
-    for level in low high; do
-        mkdir -p "$work/program" && cp samples/spin-up/adapter.bin "$work/program/" && cp "samples/spin-up/$level.txt" "$work/program/level.txt"
-        (cd "$work/program" && "$OLDPWD/$simulator") <samples/spin-up/session | diff - "$work/held/$level.codes" || return 1
-    done
-}
-try "the program prints the codes of it" held_as_the_program
+try "the program prints the codes of it" as_the_program spin-up "$work/held"
 
 # 3: what releases a disk
 # held NAME SESSION [LOW HIGH]: an exercise on the sample's adapter.

@@ -1,8 +1,8 @@
 //! The report as CSV: a line for each request, each line of the front page, each value left differently, the numbers of denied requests,
-//! each warning, and the mark.
+//! each number of the tally, each warning, and the mark.
 
 use super::escape::csv as cell;
-use super::{group, header_key, verdict};
+use super::{group, header_key, tally, verdict};
 use crate::left::GROUPS;
 use crate::linux;
 use crate::marking::Marking;
@@ -34,6 +34,10 @@ pub fn csv(marking: &Marking) -> String {
         let first = [kind, "", what].map(String::from);
         let numbers = (0..marking.runs.len()).map(|i| number(marking, i).to_string());
         out.push_str(&line(count, first.into_iter().chain(numbers)));
+    }
+    for found in tally(marking) {
+        let first = ["tally".to_string(), String::new(), found.what];
+        out.push_str(&line(count, first.into_iter().chain(found.values)));
     }
     for (kind, words) in notes(marking) {
         let cells = [kind.to_string(), String::new(), words];

@@ -2,7 +2,7 @@
 //! the counters, and the sectors that a run changed. It is fit to be printed.
 
 use super::escape::html as plain;
-use super::{explained, group, head, pairs, remarks, verdict};
+use super::{explained, group, head, pairs, remarks, tally, verdict, NO_TALLY};
 use crate::left::{sectors, COUNTERS, GROUPS};
 use crate::linux::coloured;
 use crate::marking::Marking;
@@ -26,6 +26,7 @@ pub fn html(marking: &Marking) -> String {
         let class = if name == "warning" { "warning" } else { "head" };
         out.push_str(&paragraph(class, &format!("{name}: {words}")));
     }
+    out.push_str(&totals(marking));
     if !marking.rows.is_empty() {
         out.push_str(&requests(marking));
         if !marking.front.is_empty() {
@@ -45,6 +46,21 @@ fn paragraph(class: &str, text: &str) -> String {
 
 fn section(title: &str, content: &str) -> String {
     format!("<h2>{title}</h2>\n{content}")
+}
+
+/// The tally of each run.
+fn totals(marking: &Marking) -> String {
+    let numbers = tally(marking);
+    if numbers.is_empty() {
+        return paragraph("note", NO_TALLY);
+    }
+    let row = |number: &Difference| {
+        let mut cells = vec![cell("what", &number.what)];
+        cells.extend(values(number));
+        line("same", &cells)
+    };
+    let rows: String = numbers.iter().map(row).collect();
+    section("Tally", &table(&heads(marking, &["tally"], &[]), &rows))
 }
 
 fn requests(marking: &Marking) -> String {
@@ -109,9 +125,14 @@ fn of_row(marking: &Marking, number: usize, request: &str, row: &Row) -> String 
 
 fn valued(before: &[&str], difference: &Difference, behind: &str) -> Vec<String> {
     let mut cells: Vec<String> = before.iter().map(|text| cell("what", text)).collect();
-    cells.extend(difference.values.iter().map(|value| cell("value", value)));
+    cells.extend(values(difference));
     cells.push(cell("word", behind));
     cells
+}
+
+/// The values of the runs.
+fn values(difference: &Difference) -> impl Iterator<Item = String> + '_ {
+    difference.values.iter().map(|value| cell("value", value))
 }
 
 /// The front page, with the words of each run.

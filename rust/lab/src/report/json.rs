@@ -7,8 +7,17 @@ use crate::left::GROUPS;
 use crate::marking::Marking;
 use crate::row::Row;
 use labkit::names::level_name;
-use labkit::report::{request_words, Difference};
+use labkit::report::{request_words, Difference, Total, COUNTED};
 use labkit::session::Request;
+
+/// The names of the numbers of a tally.
+const TALLY: [&str; COUNTED.len()] = [
+    "requests",
+    "granted",
+    "denied",
+    "otherwise_refused",
+    "short",
+];
 
 pub fn json(marking: &Marking) -> String {
     let members = [
@@ -72,17 +81,24 @@ pub fn json(marking: &Marking) -> String {
 fn run(marking: &Marking, i: usize) -> String {
     let (run, text) = (&marking.runs[i], &marking.exercise.texts[i]);
     let level = (run.opening == 0).then(|| level_name(run.level()));
+    let tallies = marking.tallies();
     let mut members = vec![
         ("name", string(run.name)),
         ("text", string(&String::from_utf8_lossy(&text.bytes))),
         ("opening", run.opening.to_string()),
         ("level", optional(level)),
         ("denied", marking.denied(i).to_string()),
+        ("tally", tallies.get(i).map_or("null".to_string(), tally)),
     ];
     if marking.has_linux() {
         members.push(("above", marking.above(i).to_string()));
     }
     object(&members)
+}
+
+fn tally(tally: &Total) -> String {
+    let numbers = tally.0.map(|number| number.to_string());
+    object(&TALLY.into_iter().zip(numbers).collect::<Vec<_>>())
 }
 
 fn request(marking: &Marking, number: usize, sent: &Request, row: &Row) -> String {

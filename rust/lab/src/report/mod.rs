@@ -17,6 +17,7 @@ use crate::linux;
 use crate::marking::Marking;
 use crate::row::Row;
 use labkit::names::level_name;
+use labkit::report::{Difference, COUNTED};
 use labkit::session::{Header, Request};
 
 /// The mark in one line, or why there is none.
@@ -46,6 +47,20 @@ fn verdict(marking: &Marking) -> String {
         denied.join(", "),
         left_words(marking)
     )
+}
+
+/// What is said where the session was not run.
+const NO_TALLY: &str = "no tally: the session was not run";
+
+/// The tally, a line for each number with that of each run; nothing where the session was not run.
+fn tally(marking: &Marking) -> Vec<Difference> {
+    let tallies = marking.tallies();
+    let line = |(i, name): (usize, &&str)| Difference {
+        what: name.to_string(),
+        values: tallies.iter().map(|tally| tally.0[i].to_string()).collect(),
+    };
+    let lines = COUNTED.iter().enumerate().map(line);
+    lines.filter(|line| !line.values.is_empty()).collect()
 }
 
 /// How much the runs left differently.
@@ -169,10 +184,7 @@ fn head(marking: &Marking) -> Vec<(String, String)> {
 }
 
 /// What the runs left of a group: nothing that differs, or lines.
-fn group<'m>(
-    marking: &'m Marking,
-    group: Group,
-) -> impl Iterator<Item = &'m labkit::report::Difference> {
+fn group<'m>(marking: &'m Marking, group: Group) -> impl Iterator<Item = &'m Difference> {
     let of_it = move |left: &&crate::left::Left| left.group == group;
     marking
         .left

@@ -1,6 +1,6 @@
-//! The plain report: the exercise, the requests with their answers, what the runs left, and the mark in the last line.
+//! The plain report: the exercise, the requests with their answers, what the runs left, the tally, and the mark in the last line.
 
-use super::{explained, group, head, pairs, remarks, verdict};
+use super::{explained, group, head, pairs, remarks, tally, verdict, NO_TALLY};
 use crate::left::GROUPS;
 use crate::marking::Marking;
 use labkit::report::{request_words, Difference};
@@ -18,12 +18,13 @@ pub fn text(marking: &Marking) -> String {
         out.push_str(&columns(&requests(marking)));
         out.push_str(&line(marking.cut.as_deref()));
         out.push('\n');
-        if !marking.front.is_empty() {
-            out.push_str(&columns(&front(marking)));
-            out.push('\n');
-        }
+        out.push_str(&table(marking, "front page", &marking.front));
         out.push_str(&columns(&left(marking)));
         out.push('\n');
+    }
+    match &tally(marking)[..] {
+        [] => out.push_str(&line(Some(NO_TALLY))),
+        numbers => out.push_str(&table(marking, "tally", numbers)),
     }
     for (one, other, count) in pairs(marking) {
         let (one, other) = (marking.runs[one].name, marking.runs[other].name);
@@ -76,11 +77,14 @@ fn heading(marking: &Marking, first: &[&str]) -> Vec<String> {
         .collect()
 }
 
-/// The front page, with the words of each run.
-fn front(marking: &Marking) -> Vec<Vec<String>> {
-    let mut lines = vec![heading(marking, &["front page"])];
-    lines.extend(marking.front.iter().map(|line| valued(&[""], line)));
-    lines
+/// Lines with a value of each run, below a heading and with a blank line behind them; nothing where there are none.
+fn table(marking: &Marking, name: &str, lines: &[Difference]) -> String {
+    if lines.is_empty() {
+        return String::new();
+    }
+    let mut cells = vec![heading(marking, &[name])];
+    cells.extend(lines.iter().map(|line| valued(&[""], line)));
+    format!("{}\n", columns(&cells))
 }
 
 /// What differs at the end, in four groups.

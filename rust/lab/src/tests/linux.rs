@@ -91,15 +91,13 @@ fn the_run_of_both_headers_is_the_calls() {
         let mut medium = exercise.medium();
         let mut one = Run::open("one", text, file, &medium);
         let session = exercise.form.split(&exercise.session.bytes);
-        let (mut replies, mut lines) = (Vec::new(), Vec::new());
+        let mut replies = Vec::new();
         for request in &session.requests {
             one.handle(request);
             let (header, buffer) = (request.header, &one.reply);
             Form::Both
                 .add(&mut replies, &Request { header, buffer })
                 .unwrap();
-            let code = one.answer().code.unwrap_or(record::NO_CODE);
-            lines.extend([one.call, code].map(u32::to_le_bytes).concat());
             handled[usize::from(header.is_linux())] += 1;
         }
         replies.extend(session.tail);
@@ -107,7 +105,7 @@ fn the_run_of_both_headers_is_the_calls() {
         let mut record = vec![0; record::SIZE * session.requests.len()];
         let count = library::run_both(text, file, &mut medium, &mut whole, &mut record);
         assert_eq!(count, session.requests.len(), "seed {seed}");
-        assert!(whole == replies && record == lines, "seed {seed}");
+        assert!(whole == replies && record == one.record, "seed {seed}");
         assert!(medium == one.medium, "seed {seed}");
     }
     assert!(handled.iter().all(|count| *count > 500), "{handled:?}");

@@ -1,6 +1,7 @@
 //! The return codes of two runs of one session side by side, as the program printed them. They are not the mark, which goes by
 //! whole replies and by what the runs left: that is `lab`'s.
 
+use super::total::{Total, COUNTED};
 use super::transcript::{Answer, Transcript};
 use super::words::request_words;
 use crate::names;
@@ -10,9 +11,14 @@ use crate::session::split;
 #[derive(Debug)]
 pub struct Comparison {
     rows: Vec<Row>,
+    /// Of the low run and of the high one; none of a refused opening.
+    totals: [Option<Total>; 2],
     openings: Vec<String>,
     cut: bool,
 }
+
+/// What stands for a run whose opening was refused.
+const NOT_OPENED: &str = "not opened";
 
 #[derive(Debug)]
 struct Row {
@@ -37,6 +43,7 @@ pub fn compare(session: &[u8], low: &Transcript, high: &Transcript) -> Result<Co
     }
     Ok(Comparison {
         rows,
+        totals: [low_answers, high_answers].map(|answers| answers.map(Total::of)),
         openings: [refused("low", low), refused("high", high)].concat(),
         cut: !cut.tail.is_empty(),
     })
@@ -86,7 +93,7 @@ impl Row {
     fn words(answer: &Option<Answer>) -> String {
         match answer {
             Some(answer) => answer.words(),
-            None => "not opened".to_string(),
+            None => NOT_OPENED.to_string(),
         }
     }
 }
@@ -111,7 +118,19 @@ impl Comparison {
         )
     }
 
-    /// The table, the openings that were refused, and how many differ in the last line.
+    /// The totals of both runs, a line for each number.
+    fn tally(&self) -> impl Iterator<Item = [String; 5]> + '_ {
+        COUNTED.iter().enumerate().map(|(i, name)| {
+            let number = |total: Option<Total>| match total {
+                Some(total) => total.0[i].to_string(),
+                None => NOT_OPENED.to_string(),
+            };
+            let [low, high] = self.totals.map(number);
+            [String::new(), name.to_string(), low, high, String::new()]
+        })
+    }
+
+    /// The table, the totals below it, the openings that were refused, and how many differ in the last line.
     pub fn table(&self) -> String {
         let mut cells = vec![["no", "request", "low", "high", ""].map(String::from)];
         for (i, row) in self.rows.iter().enumerate() {
@@ -126,6 +145,7 @@ impl Comparison {
         if self.cut {
             cells.push(["", "a last request, cut", "", "", ""].map(String::from));
         }
+        cells.extend(self.tally());
         let mut text = columns(&cells);
         for line in self.openings.iter().chain([&self.codes()]) {
             text.push_str(line);
@@ -159,29 +179,40 @@ mod tests {
     #[test]
     fn side_by_side() {
         let session = parse("get-phy-info\nset-phy-info phy=9\nraw 00\ntail 01").unwrap();
-        let low = run("request call code\n1 0 0\n2 0 4\n3 100 -\ncut\n");
-        let high = run("request call code\n1 0 0\n2 0 2002\n3 100 -\ncut\n");
+        let low = run("request call code\n1 0 0\n2 0 4\n3 100 -\ncut\ntotal 3 1 1 0 1\n");
+        let high = run("request call code\n1 0 0\n2 0 2002\n3 100 -\ncut\ntotal 3 1 0 1 1\n");
         let compared = compare(&session, &low, &high).unwrap();
         assert_eq!((compared.differing(), compared.denied_low()), (1, 1));
         let table = compared.table();
         let lines: Vec<&str> = table.lines().collect();
-        assert_eq!(lines.len(), 6);
+        assert_eq!(lines.len(), 11);
         assert!(lines[2].contains("4 denied, write attempted"));
         assert!(lines[2].contains("2002 phy does not exist"));
         assert!(lines[2].ends_with("differs") && !lines[1].ends_with("differs"));
         assert_eq!(lines[4].trim(), "a last request, cut");
-        assert_eq!(lines[5], "codes: 1 of 3 differ, 1 denied low");
+        let numbers = |line: &&str| line.split_whitespace().collect::<Vec<_>>().join(" ");
+        let tally: Vec<String> = lines[5..10].iter().map(numbers).collect();
+        let expected = [
+            "requests 3 3",
+            "granted 1 1",
+            "denied 1 0",
+            "otherwise refused 0 1",
+            "100s 1 1",
+        ];
+        assert_eq!(tally, expected);
+        assert_eq!(lines[10], "codes: 1 of 3 differ, 1 denied low");
     }
 
     #[test]
     fn refused_openings() {
         let session = parse("get-phy-info").unwrap();
-        let opened = run("request call code\n1 0 0\n");
+        let opened = run("request call code\n1 0 0\ntotal 1 1 0 0 0\n");
         let one = compare(&session, &run("open 101\n"), &opened).unwrap();
         assert_eq!(one.codes(), "codes: 1 of 1 differ, 0 denied low");
         assert!(one
             .table()
             .contains("low: opening refused, 101 bad level text\n"));
+        assert!(one.table().contains("granted            not opened  1\n"));
         let both = compare(&session, &run("open 104\n"), &run("open 104\n")).unwrap();
         assert_eq!(both.codes(), "codes: 0 of 1 differ, 0 denied low");
     }
@@ -189,9 +220,9 @@ mod tests {
     #[test]
     fn runs_that_do_not_fit() {
         let session = parse("get-phy-info\nget-phy-info").unwrap();
-        let one = run("request call code\n1 0 0\n");
-        let two = run("request call code\n1 0 0\n2 0 0\n");
-        let cut = run("request call code\n1 0 0\n2 0 0\ncut\n");
+        let one = run("request call code\n1 0 0\ntotal 1 1 0 0 0\n");
+        let two = run("request call code\n1 0 0\n2 0 0\ntotal 2 2 0 0 0\n");
+        let cut = run("request call code\n1 0 0\n2 0 0\ncut\ntotal 2 2 0 0 0\n");
         assert_eq!(
             compare(&session, &two, &one).unwrap_err(),
             "the high run answers 1 requests, the session has 2"

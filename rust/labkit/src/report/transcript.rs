@@ -1,8 +1,12 @@
-//! What the simulator prints: `open N`, or `request call code` and a line for each request, and `cut` behind a request that is cut
-//! short or oversized.
+//! What the simulator prints: `open N`, or `request call code` and a line for each request, `cut` behind a request that is cut short or
+//! oversized, and the total of these lines.
 
+use super::total::Total;
 use crate::names;
 use crate::Fault;
+
+/// The first line of a run.
+const HEADING: &str = "request call code";
 
 #[derive(Debug, Clone, PartialEq, Eq)]
 pub enum Transcript {
@@ -20,6 +24,15 @@ pub enum Answer {
 }
 
 impl Answer {
+    pub fn is_granted(&self) -> bool {
+        *self == Answer::Code(names::SUCCESS)
+    }
+
+    /// Whether the buffer was too short for its header.
+    pub fn is_short(&self) -> bool {
+        *self == Answer::Call(names::BUFFER_SHORT)
+    }
+
     pub fn is_denied(&self) -> bool {
         *self == Answer::Code(names::DENIED)
     }
@@ -36,37 +49,58 @@ impl Answer {
 impl Transcript {
     /// Reads what a run printed.
     pub fn parse(text: &str) -> Result<Transcript, Fault> {
-        let mut lines = text.lines();
-        let first = lines.next().unwrap_or("");
-        if let Some(number) = first.strip_prefix("open ") {
-            let number = number
-                .parse()
-                .map_err(|_| Fault::new(1, format!("'{number}' is not a number")))?;
-            return match lines.next() {
-                None => Ok(Transcript::Refused(number)),
-                Some(_) => Err(Fault::new(2, "a line behind a refused opening")),
-            };
+        let lines: Vec<&str> = text.lines().collect();
+        let (first, behind) = lines.split_first().unwrap_or((&"", &[]));
+        match first.strip_prefix("open ") {
+            Some(number) => refused(number, behind),
+            None if *first == HEADING => run(behind),
+            None => Err(Fault::new(1, format!("neither 'open N' nor '{HEADING}'"))),
         }
-        if first != "request call code" {
-            return Err(Fault::new(1, "neither 'open N' nor 'request call code'"));
-        }
-        let mut answers = Vec::new();
-        let mut cut = false;
-        for (i, line) in lines.enumerate() {
-            let number = i + 2;
-            if cut {
-                return Err(Fault::new(number, "a line behind cut"));
-            }
-            if line == "cut" {
-                cut = true;
-                continue;
-            }
-            let answer = answer(line, answers.len() + 1)
-                .ok_or_else(|| Fault::new(number, format!("'{line}' is no request's line")))?;
-            answers.push(answer);
-        }
-        Ok(Transcript::Run { answers, cut })
     }
+}
+
+fn refused(number: &str, behind: &[&str]) -> Result<Transcript, Fault> {
+    let number = number
+        .parse()
+        .map_err(|_| Fault::new(1, format!("'{number}' is not a number")))?;
+    match behind {
+        [] => Ok(Transcript::Refused(number)),
+        _ => Err(Fault::new(2, "a line behind a refused opening")),
+    }
+}
+
+/// A run by the lines behind its heading: those of its requests, `cut` if the session was, and the total.
+fn run(lines: &[&str]) -> Result<Transcript, Fault> {
+    let last = lines.len() + 1;
+    let (requests, cut, total) = match lines {
+        [requests @ .., "cut", total] => (requests, true, *total),
+        [requests @ .., total] => (requests, false, *total),
+        [] => (lines, false, HEADING),
+    };
+    if !total.starts_with("total ") {
+        return Err(Fault::new(
+            last,
+            "the last line is no total, with which a run ends since W-206",
+        ));
+    }
+    let answers = answers(requests)?;
+    let counted = Total::of(&answers).to_string();
+    match total == counted {
+        true => Ok(Transcript::Run { answers, cut }),
+        false => Err(Fault::new(
+            last,
+            format!("'{total}' is not '{counted}', the total of the lines above it"),
+        )),
+    }
+}
+
+/// The answers of the lines behind the heading.
+fn answers(lines: &[&str]) -> Result<Vec<Answer>, Fault> {
+    let of_line = |(i, line): (usize, &&str)| {
+        answer(line, i + 1)
+            .ok_or_else(|| Fault::new(i + 2, format!("'{line}' is no request's line")))
+    };
+    lines.iter().enumerate().map(of_line).collect()
 }
 
 /// The answer that the line of request n gives: `n call code`, with `-` for the code exactly if the call's number is not 0.
@@ -92,12 +126,22 @@ mod tests {
             Transcript::parse("open 103\n"),
             Ok(Transcript::Refused(103))
         );
-        let text = "request call code\n1 0 0\n2 0 4\n3 100 -\ncut\n";
+        let text = "request call code\n1 0 0\n2 0 4\n3 100 -\ncut\ntotal 3 1 1 0 1\n";
         let answers = vec![Answer::Code(0), Answer::Code(4), Answer::Call(100)];
         assert_eq!(
             Transcript::parse(text),
             Ok(Transcript::Run { answers, cut: true })
         );
+        for (text, cut) in [
+            ("request call code\ntotal 0 0 0 0 0\n", false),
+            ("request call code\ncut\ntotal 0 0 0 0 0\n", true),
+        ] {
+            let answers = Vec::new();
+            assert_eq!(
+                Transcript::parse(text),
+                Ok(Transcript::Run { answers, cut })
+            );
+        }
     }
 
     #[test]
@@ -106,13 +150,50 @@ mod tests {
             "",
             "open x\n",
             "open 101\nmore\n",
-            "request call code\n2 0 0\n",
-            "request call code\n1 0 -\n",
-            "request call code\n1 100 3\n",
-            "request call code\n1 0\n",
-            "request call code\ncut\n1 0 0\n",
+            "open 101\ntotal 0 0 0 0 0\n",
+            "request call code\n2 0 0\ntotal 1 1 0 0 0\n",
+            "request call code\n1 0 -\ntotal 1 0 0 1 0\n",
+            "request call code\n1 100 3\ntotal 1 0 0 0 1\n",
+            "request call code\n1 0\ntotal 1 1 0 0 0\n",
+            "request call code\ncut\n1 0 0\ntotal 1 1 0 0 0\n",
         ] {
             assert!(Transcript::parse(text).is_err(), "{text}");
+        }
+    }
+
+    #[test]
+    fn a_run_ends_with_its_total_and_no_other() {
+        let fault = |end: &str| {
+            let text = format!("request call code\n1 0 0\n2 0 2000\n{end}");
+            Transcript::parse(&text).unwrap_err().to_string()
+        };
+        let no_total = "the last line is no total, with which a run ends since W-206";
+        assert_eq!(fault(""), format!("line 3: {no_total}"));
+        assert_eq!(fault("cut\n"), format!("line 4: {no_total}"));
+        for behind in ["cut", "3 0 0", "total"] {
+            let end = format!("total 2 1 0 1 0\n{behind}\n");
+            assert_eq!(fault(&end), format!("line 5: {no_total}"));
+        }
+        let twice = "total 2 1 0 1 0\ntotal 2 1 0 1 0\n";
+        let line = "line 4: 'total 2 1 0 1 0' is no request's line";
+        assert_eq!(fault(twice), line);
+        for wrong in [
+            "total 2 2 0 0 0",
+            "total 2 1 1 0 0",
+            "total 2 0 1 1 0",
+            "total 2 1 0 0 1",
+            "total 3 1 0 1 0",
+            "total 2 1 0 1",
+            "total 2 1 0 1 0 0",
+            "total 2 1 0 01 0",
+            "total 2 1  0 1 0",
+            "total 2 1 0 1 0 ",
+            "total ",
+        ] {
+            let reason = format!(
+                "line 4: '{wrong}' is not 'total 2 1 0 1 0', the total of the lines above it"
+            );
+            assert_eq!(fault(&format!("{wrong}\n")), reason);
         }
     }
 
