@@ -1,19 +1,21 @@
 /* console ADAPTER: a console of a few requests, each sent under the first header of CSMI with ascheknopf_request and then under the Linux
-   header with ascheknopf_request_linux; prints the replies in words. The adapter is opened at Restricted, which binds the first header
-   alone. console.py does the same in Python. */
+   header with ascheknopf_request_linux; prints the replies in words, and last what they came to. The adapter is opened at Restricted, which
+   binds the first header alone. console.py does the same in Python. */
 #include "ascheknopf.h"
 
+#include <assert.h>
 #include <stdio.h>
 #include <string.h>
 
 /* The first header's size, and where its return code is; of the Linux header include/ascheknopf.h says it. */
 enum { FIRST = 28, FIRST_CODE = 20, LINUX = ASCHEKNOPF_LINUX_SIZE };
 enum { DATA_READ = 0, DATA_WRITE = 1 };
-enum { SECTOR = 512, DISK = 8192, LARGEST = 2052 };
+enum { SECTOR = 512, DISK = 8192, LARGEST = 2052, MOST = 16 };
+#define NO_CODE 0xFFFFFFFFu
 
-/* Everything that the simulator works on is ours. */
-static uint8_t file[69 * 512], medium[32 * DISK], state[ASCHEKNOPF_STATE_SIZE], buffer[FIRST + LARGEST];
-static size_t file_len, medium_len;
+/* Everything that the simulator works on is ours; the record too, a line for each request of either header. */
+static uint8_t file[69 * 512], medium[32 * DISK], state[ASCHEKNOPF_STATE_SIZE], buffer[FIRST + LARGEST], record[8 * MOST];
+static size_t file_len, medium_len, record_len;
 
 static uint32_t word(const uint8_t *at)
 {
@@ -91,14 +93,24 @@ struct request {
     uint8_t body[LARGEST];
 };
 
+/* Keeps a line of the record: the call's number and the return code, which stands only in the reply of a call that gave 0. */
+static void keep(uint32_t number, uint32_t code)
+{
+    assert(record_len + 8 <= sizeof record);
+    put_word(record + record_len, number);
+    put_word(record + record_len + 4, number == 0 ? code : NO_CODE);
+    record_len += 8;
+}
+
 /* The body of a granted reply, or NULL: what the header's call left in the buffer. */
 static const uint8_t *reply_body(const char *header, uint32_t number, size_t code_at, size_t body_at)
 {
+    uint32_t code = word(buffer + code_at);
+    keep(number, code);
     if (number != 0) {
         printf("    %s: refused with %u, %s\n", header, (unsigned)number, number_in_words(number));
         return NULL;
     }
-    uint32_t code = word(buffer + code_at);
     printf("    %s: %u, %s\n", header, (unsigned)code, code_in_words(code));
     return code == 0 ? buffer + body_at : NULL;
 }
@@ -211,6 +223,21 @@ static struct request sector(const char *what, uint8_t direction, uint8_t comman
     return r;
 }
 
+static unsigned long long total(const uint8_t *at)
+{
+    return word(at) | (unsigned long long)word(at + 4) << 32;
+}
+
+/* What the requests since the opening came to, counted by the library on the record. */
+static void tally(void)
+{
+    uint8_t totals[ASCHEKNOPF_TOTALS_SIZE];
+    ascheknopf_tally(record, record_len, totals, sizeof totals);
+    printf("%llu requests: %llu granted, %llu denied, %llu otherwise refused, %llu refused with 100\n",
+           total(totals + ASCHEKNOPF_TOTALS_REQUESTS), total(totals + ASCHEKNOPF_TOTALS_GRANTED), total(totals + ASCHEKNOPF_TOTALS_DENIED),
+           total(totals + ASCHEKNOPF_TOTALS_OTHERWISE_REFUSED), total(totals + ASCHEKNOPF_TOTALS_SHORT));
+}
+
 static void console(const char *text)
 {
     uint32_t number = ascheknopf_open((const uint8_t *)text, strlen(text), file, file_len, medium, medium_len, state, sizeof state);
@@ -233,6 +260,7 @@ static void console(const char *text)
     send_both(&read, show_data);
     send_both(&ioctl, show_phys);
     printf("the level is still %u\n", state[ASCHEKNOPF_LEVEL]);
+    tally();
 }
 
 int main(int count, char **arguments)

@@ -1,11 +1,14 @@
 """console.py LIBRARY ADAPTER: a console of a few requests, each sent under the first header of CSMI with ascheknopf_request and then
-under the Linux header with ascheknopf_request_linux; prints the replies in words. The adapter is opened at Restricted, which binds the
-first header alone. console.c does the same in C. LIBRARY is the archive as a shared object, which samples/two-calls/build makes."""
+under the Linux header with ascheknopf_request_linux; prints the replies in words, and last what they came to. The adapter is opened at
+Restricted, which binds the first header alone. console.c does the same in C. LIBRARY is the archive as a shared object, which
+samples/two-calls/build makes."""
 
 import ctypes
+import struct
 import sys
 
-STATE_SIZE = 6181
+STATE_SIZE, TOTALS_SIZE = 6181, 40
+NO_CODE = 0xFFFFFFFF
 LEVEL, PHY_COUNT = 0, 1
 FIRST, FIRST_CODE = 28, 20  # sizes of the two headers, and where the return code is in each
 LINUX, LINUX_CODE = 20, 8
@@ -97,11 +100,12 @@ def reply_body(header, number, buffer, code_at, body_at):
 
 
 class Adapter:
-    """An adapter as its caller holds it: everything that the simulator works on is ours."""
+    """An adapter as its caller holds it: everything that the simulator works on is ours; the record too, a line for each request of
+    either header."""
 
     def __init__(self, library, file, medium):
         self.library, self.file, self.medium = library, file, medium
-        self.state = bytearray(STATE_SIZE)
+        self.state, self.record = bytearray(STATE_SIZE), bytearray()
 
     def open(self, text):
         """The number of the opening."""
@@ -112,6 +116,7 @@ class Adapter:
     def send_first(self, request):
         buffer = request.first()
         number = self.library.ascheknopf_request(*lent(self.state), *lent(self.medium), *lent(buffer))
+        self.keep(number, word(buffer, FIRST_CODE))
         return reply_body("first header", number, buffer, FIRST_CODE, FIRST)
 
     def send_linux(self, request):
@@ -120,6 +125,7 @@ class Adapter:
         number = self.library.ascheknopf_request_linux(
             *lent(self.state), *lent(self.medium), ctypes.c_uint32(request.control), *lent(buffer)
         )
+        self.keep(number, word(buffer, LINUX_CODE))
         return reply_body("Linux header", number, buffer, LINUX_CODE, LINUX)
 
     def send_both(self, request, show):
@@ -128,6 +134,17 @@ class Adapter:
         show(self, self.send_first(request))
         show(self, self.send_linux(request))
 
+    def keep(self, number, code):
+        """Keeps a line of the record: the call's number and the return code, which stands only in the reply of a call that gave 0."""
+        self.record += number.to_bytes(4, "little") + (code if number == 0 else NO_CODE).to_bytes(4, "little")
+
+    def tally(self):
+        """What the requests since the opening came to, counted by the library on the record."""
+        totals = bytearray(TOTALS_SIZE)
+        self.library.ascheknopf_tally(*lent(self.record), *lent(totals))
+        requests, *kinds = struct.unpack("<5Q", totals)
+        words = "granted", "denied", "otherwise refused", "refused with 100"
+        print(f"{requests} requests: {', '.join(f'{count} {kind}' for count, kind in zip(kinds, words))}")
 
 def show_controller(adapter, reply):
     if reply:
@@ -197,14 +214,16 @@ def console(adapter, text):
     adapter.send_both(sector(adapter, "read sector 3", DATA_READ, 0x20, b""), show_data)
     adapter.send_both(ioctl, show_phys)
     print(f"the level is still {adapter.state[LEVEL]}")
+    adapter.tally()
 
 
 def main(arguments):
     if len(arguments) != 3:
         sys.exit("use: console.py LIBRARY ADAPTER")
     library = ctypes.CDLL(arguments[1])
-    for function in library.ascheknopf_open, library.ascheknopf_request, library.ascheknopf_request_linux:
-        function.restype = ctypes.c_uint32
+    calls = "ascheknopf_open", "ascheknopf_request", "ascheknopf_request_linux", "ascheknopf_tally"
+    for name in calls:
+        getattr(library, name).restype = ctypes.c_uint32
     with open(arguments[2], "rb") as opened:
         file = bytearray(opened.read())
     medium = bytearray(file[0] * DISK)

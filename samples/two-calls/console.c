@@ -1,19 +1,28 @@
 /* console ADAPTER: a console of a few requests, sent one at a time through the two calls of include/ascheknopf.h; prints the replies in
-   words. It opens the adapter at Restricted, then again at Full, and asks the same of both. console.py does the same in Python. */
+   words, and last what they came to. It opens the adapter at Restricted, then again at Full, and asks the same of both. console.py does the
+   same in Python. */
 #include "ascheknopf.h"
 
+#include <assert.h>
 #include <stdio.h>
 #include <string.h>
 
-enum { HEADER = 28, CODE = 20, SECTOR = 512, DISK = 8192 };
+enum { HEADER = 28, CODE = 20, SECTOR = 512, DISK = 8192, MOST = 16 };
+#define NO_CODE 0xFFFFFFFFu
 
-/* Everything that the simulator works on is ours. */
-static uint8_t file[69 * 512], medium[32 * DISK], state[ASCHEKNOPF_STATE_SIZE], buffer[HEADER + 2052];
-static size_t file_len, medium_len;
+/* Everything that the simulator works on is ours; the record too, a line for each request since the opening. */
+static uint8_t file[69 * 512], medium[32 * DISK], state[ASCHEKNOPF_STATE_SIZE], buffer[HEADER + 2052], record[8 * MOST];
+static size_t file_len, medium_len, record_len;
 
 static uint32_t word(const uint8_t *at)
 {
     return at[0] | (uint32_t)at[1] << 8 | (uint32_t)at[2] << 16 | (uint32_t)at[3] << 24;
+}
+
+static void put_word(uint8_t *at, uint32_t number)
+{
+    for (int i = 0; i < 4; i++)
+        at[i] = number >> 8 * i & 0xFF;
 }
 
 static const char *number_in_words(uint32_t number)
@@ -104,15 +113,25 @@ static uint8_t *request(uint8_t code, size_t size)
     return buffer + HEADER;
 }
 
+/* Keeps a line of the record: the call's number and the return code, which stands only in the reply of a call that gave 0. */
+static void keep(uint32_t number, uint32_t code)
+{
+    assert(record_len + 8 <= sizeof record);
+    put_word(record + record_len, number);
+    put_word(record + record_len + 4, number == 0 ? code : NO_CODE);
+    record_len += 8;
+}
+
 /* Sends what stands in the buffer; 1 if it was granted. */
 static int send(const char *what, size_t length)
 {
     uint32_t number = ascheknopf_request(state, sizeof state, medium, medium_len, buffer, length);
+    uint32_t code = word(buffer + CODE);
+    keep(number, code);
     if (number != 0) {
         printf("%s: refused with %u, %s\n", what, (unsigned)number, number_in_words(number));
         return 0;
     }
-    uint32_t code = word(buffer + CODE);
     printf("%s: %u, %s\n", what, (unsigned)code, code_in_words(code));
     return code == 0;
 }
@@ -220,8 +239,24 @@ static void sector(const char *what, uint8_t command, const char *data)
         printf("    status %02Xh, %u bytes, which begin: %.16s\n", body[50], (unsigned)word(body + 132), (const char *)body + 136);
 }
 
+static unsigned long long total(const uint8_t *at)
+{
+    return word(at) | (unsigned long long)word(at + 4) << 32;
+}
+
+/* What the requests since the opening came to, counted by the library on the record. */
+static void tally(void)
+{
+    uint8_t totals[ASCHEKNOPF_TOTALS_SIZE];
+    ascheknopf_tally(record, record_len, totals, sizeof totals);
+    printf("%llu requests: %llu granted, %llu denied, %llu otherwise refused, %llu refused with 100\n",
+           total(totals + ASCHEKNOPF_TOTALS_REQUESTS), total(totals + ASCHEKNOPF_TOTALS_GRANTED), total(totals + ASCHEKNOPF_TOTALS_DENIED),
+           total(totals + ASCHEKNOPF_TOTALS_OTHERWISE_REFUSED), total(totals + ASCHEKNOPF_TOTALS_SHORT));
+}
+
 static void console(const char *text)
 {
+    record_len = 0;
     uint32_t number = ascheknopf_open((const uint8_t *)text, strlen(text), file, file_len, medium, medium_len, state, sizeof state);
     printf("open with %s %u, %s\n", text, (unsigned)number, number_in_words(number));
     printf("    level %u, %u phys, %u rows\n", state[ASCHEKNOPF_LEVEL], state[ASCHEKNOPF_PHY_COUNT], state[ASCHEKNOPF_ROW_COUNT]);
@@ -234,6 +269,7 @@ static void console(const char *text)
     sector("read sector 3", 0x20, "");
     request(1, 174);
     send("driver info in 5 bytes", 5);
+    tally();
 }
 
 int main(int count, char **arguments)

@@ -1,11 +1,13 @@
 """console.py LIBRARY ADAPTER: a console of a few requests, sent one at a time through the two calls of include/ascheknopf.h; prints
-the replies in words. It opens the adapter at Restricted, then again at Full, and asks the same of both. console.c does the same in C.
-LIBRARY is the archive as a shared object, which `build` makes."""
+the replies in words, and last what they came to. It opens the adapter at Restricted, then again at Full, and asks the same of both.
+console.c does the same in C. LIBRARY is the archive as a shared object, which `build` makes."""
 
 import ctypes
+import struct
 import sys
 
-STATE_SIZE = 6181
+STATE_SIZE, TOTALS_SIZE = 6181, 40
+NO_CODE = 0xFFFFFFFF
 LEVEL, PHY_COUNT, ROW_COUNT = 0, 1, 2
 HEADER, CODE, SECTOR, DISK = 28, 20, 512, 8192
 
@@ -80,14 +82,16 @@ def lent(data):
 
 
 class Adapter:
-    """An adapter as its caller holds it: everything that the simulator works on is ours."""
+    """An adapter as its caller holds it: everything that the simulator works on is ours; the record too, a line for each request since
+    the opening."""
 
     def __init__(self, library, file, medium):
         self.library, self.file, self.medium = library, file, medium
-        self.state = bytearray(STATE_SIZE)
+        self.state, self.record = bytearray(STATE_SIZE), bytearray()
 
     def open(self, text):
         """The number of the opening."""
+        self.record = bytearray()
         return self.library.ascheknopf_open(
             *lent(bytearray(text)), *lent(self.file), *lent(self.medium), *lent(self.state)
         )
@@ -95,12 +99,25 @@ class Adapter:
     def send(self, what, buffer):
         """Sends a request, in place; whether it was granted."""
         number = self.library.ascheknopf_request(*lent(self.state), *lent(self.medium), *lent(buffer))
+        code = word(buffer, CODE)
+        self.keep(number, code)
         if number != 0:
             print(f"{what}: refused with {number}, {NUMBERS[number]}")
             return False
-        code = word(buffer, CODE)
         print(f"{what}: {code}, {CODES.get(code, 'see section 10 of CSMI')}")
         return code == 0
+
+    def keep(self, number, code):
+        """Keeps a line of the record: the call's number and the return code, which stands only in the reply of a call that gave 0."""
+        self.record += number.to_bytes(4, "little") + (code if number == 0 else NO_CODE).to_bytes(4, "little")
+
+    def tally(self):
+        """What the requests since the opening came to, counted by the library on the record."""
+        totals = bytearray(TOTALS_SIZE)
+        self.library.ascheknopf_tally(*lent(self.record), *lent(totals))
+        requests, *kinds = struct.unpack("<5Q", totals)
+        words = "granted", "denied", "otherwise refused", "refused with 100"
+        print(f"{requests} requests: {', '.join(f'{count} {kind}' for count, kind in zip(kinds, words))}")
 
 
 def request(code, body):
@@ -193,13 +210,14 @@ def console(adapter, text):
     sector(adapter, "write sector 3", 0x30, b"written")
     sector(adapter, "read sector 3", 0x20, b"")
     adapter.send("driver info in 5 bytes", request(1, bytes(174))[:5])
+    adapter.tally()
 
 
 def main(arguments):
     if len(arguments) != 3:
         sys.exit("use: console.py LIBRARY ADAPTER")
     library = ctypes.CDLL(arguments[1])
-    for function in library.ascheknopf_open, library.ascheknopf_request:
+    for function in library.ascheknopf_open, library.ascheknopf_request, library.ascheknopf_tally:
         function.restype = ctypes.c_uint32
     with open(arguments[2], "rb") as opened:
         file = bytearray(opened.read())
