@@ -64,7 +64,7 @@ impl Run {
 
     /// What its requests came to: the library's tally of the record.
     pub fn tally(&self) -> Total {
-        let totals = library::tally(&self.record);
+        let totals = library::Totals::of_record(&self.record);
         Total([
             totals.requests,
             totals.granted,
