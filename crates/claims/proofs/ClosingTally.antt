@@ -1,126 +1,36 @@
 -- The closing tally of a run counts the requests that were granted and denied, and two runs differ in it by the denied ones. Assumes nothing.
-use mathlib.Core.Path.{_≡_, refl, sym, _∙_, ap, subst}
-use mathlib.Core.Bool.{Bool, true, false, cond, _&&_}
-use mathlib.Core.List.{List, [], _∷_, _++_}
-use Prim.Native.Nat.{ℕ, suc, _+_, _<_, _≤_}
+use mathlib.Core.Path.{_≡_, refl, sym, _∙_, ap}
+use mathlib.Core.Bool.{Bool, true, false, cond}
+use mathlib.Core.List.{List, [], _∷_}
+use Prim.Native.Nat.{suc, _+_}
 use native.Mathlib.Nat.{zero-add}
 use native.Mathlib.Omega.{arith}
-use lib.Dec.{eqb, ltb}
-use lib.ListN.{length, take}
-use borrow.Author.Tests.{eqb-true, eqb-false, ne-eqb}
-use Rattle.laws.specs.Choice.{by-bool, either, either-by, both-left}
+use lib.ListN.{length}
+use Rattle.laws.specs.Choice.{by-bool}
 use Rattle.laws.specs.Cases.{All}
-use Rattle.laws.specs.Runs.{log, shownBy, undropped}
-use Rattle.codes.specs.Codes.{success, writeAttempted, shortBuffer}
-use Rattle.level.specs.declared.Level.{Level}
+use Rattle.laws.specs.Runs.{log, all-noted, shownBy, undropped}
 use Rattle.tally.specs.declared.Line.{Line}
-use Rattle.tally.specs.Kinds.{LineKind, Granted, Denied, Otherwise, Short, is, line, noCode}
-use Rattle.tally.proofs.RecordLaws.{Fits}
+use Rattle.tally.specs.Kinds.{LineKind, Granted, Denied, Otherwise, Short, is, line}
 use Rattle.tally.specs.Totals.{one, numberOf, tallyOf, Sums}
 use Rattle.tally.proofs.KindsLaws.{denied-granted, denied-otherwise, denied-short}
-use Rattle.tally.proofs.TotalsLaws.{sums}
-use Rattle.adapter.specs.Adapter.{mediumSize}
-use Rattle.state.specs.State.{stateHolds}
-use Rattle.header.specs.Form.{returnCode, withCode}
-use Rattle.header.specs.Sent.{Request, formOf, controlOf, bodyOf, refusedByLevel, checksCode}
-use Rattle.header.proofs.FormLaws.{code-shown, header-kept}
-use Rattle.header.proofs.SentLaws.{form-room, checks-other}
-use Rattle.service.specs.Serve.{Served, served}
-use Rattle.dispatch.specs.Request.{Point, Outcome, Pending, stateNumber, bufferNumber, callNumber, pointNumber, replied, answered, answeredAt, handled}
-use Rattle.dispatch.proofs.Laws.{heard-buffer}
-use Rattle.claims.specs.Run.{Exchange, Entry, End, exchangeOf, step, denied, run, openedAt, exchanges, notDenied}
+use Rattle.tally.proofs.TotalsLaws.{sums, number-shown, number-alike}
+use Rattle.header.specs.Sent.{Request}
+use Rattle.dispatch.specs.Request.{Point}
+use Rattle.claims.specs.Run.{Exchange, Entry, End, entryOf, step, denied, run, openedAt, exchanges, notDenied}
 use Rattle.claims.specs.LastWriter.{granted}
 use Rattle.claims.specs.Claim.{lowerRun, higherRun}
-use Rattle.claims.specs.ClosingTally.{codeOf, lineOf, linesOf, totalsOf, Counts, Beside, ClosingTally}
-use Rattle.claims.proofs.Steps.{denied-step}
-use Rattle.claims.proofs.Ways.{Own}
-use Rattle.claims.proofs.OwnCodes.{served-own}
+use Rattle.claims.specs.Lines.{lineOf, linesOf}
+use Rattle.claims.specs.ClosingTally.{totalsOf, Counts, Beside, ClosingTally}
+use Rattle.claims.proofs.Lines.{granted-line, denied-line}
 use Rattle.claims.proofs.Demand3.{claim}
-
--- ---- one exchange
-
--- its line is granted where it is
-granted-line : (x : Exchange) → is Granted (lineOf x) ≡ granted x
-unfolding granted codeOf
-granted-line x =
-    by-bool (λ (b : Bool). b && eqb (cond b (returnCode (formOf (x .sent)) (x .reply .buffer)) noCode) success
-    ≡ b && eqb (returnCode (formOf (x .sent)) (x .reply .buffer)) success) refl refl (eqb (x .reply .call) 0)
-
-module _ (p : Point) (r : Request) where
-  abbrev ownLine : Line
-  ownLine = lineOf (exchangeOf r (handled p r))
-
-  number-small : callNumber p r ≤ 107
-  unfolding bufferNumber stateNumber
-  number-small =
-      either Small (eqb (pointNumber p) 0) (either Small (ltb (length (r .buffer)) (formOf r .size)) (omega arith) (omega arith))
-      (either Small (stateHolds (p .state)) (either Small (eqb (mediumSize (p .state .adapter)) (length (p .store .medium))) (omega arith) (omega arith)) (omega arith))
-    where
-      Small : ℕ → Type 0
-      Small n = n ≤ 107
-
-  room : eqb (callNumber p r) 0 ≡ true → formOf r .size ≤ length (r .buffer)
-  room e = heard-buffer (formOf r) (pointNumber p) (length (r .buffer)) (callNumber p r) refl (eqb-true (callNumber p r) 0 e)
-
-  -- the ways that the line of a request that is not denied can read
-  undenied-by : (P : Line → Type 0) → ((call : ℕ) → 0 < call → call ≤ 107 → P (line call noCode)) → ((code : ℕ) → Own code → P (line 0 code)) → denied p r ≡ false
-      → P ownLine
-  unfolding handled answeredAt answered denied codeOf
-  undenied-by P number answer d =
-      let level : Level = p .state .level in
-      let s : Served = served (p .state .adapter) (p .store) (controlOf r) (bodyOf r) in
-      either-by (λ (o : Outcome). P (lineOf (exchangeOf r o))) (eqb (callNumber p r) 0)
-      (λ z. let long : formOf r .size ≤ length (r .buffer) = room z in
-      let n : checksCode level r ≤ 3 = checks-other level r (rw z at d) in
-      either-by (λ (x : Pending). P (lineOf (exchangeOf r (replied (formOf r) level x)))) (eqb (checksCode level r) success)
-      (λ _. shows (take (formOf r .size) (r .buffer) ++ s .body) (s .code) (header-kept (formOf r) (form-room r) (r .buffer) (s .body) long)
-      (served-own (p .state .adapter) (p .store) (controlOf r) (bodyOf r)))
-      (λ _. shows (r .buffer) (checksCode level r) long (omega arith, λ e. omega arith)))
-      (λ z. let n : (callNumber p r ≡ 0 → ⊥) = eqb-false (callNumber p r) 0 z in
-      rw z (number (callNumber p r) (omega arith) number-small))
-    where
-      -- a return code that is written
-      shows : (buffer : List ℕ) (code : ℕ) → formOf r .size ≤ length buffer → Own code → P (line 0 (returnCode (formOf r) (withCode (formOf r) buffer code)))
-      shows buffer code l own = rw (code-shown (formOf r) (form-room r) buffer code l (omega arith)) (answer code own)
-
-  denied-reads : denied p r ≡ true → ownLine ≡ line 0 writeAttempted
-  unfolding codeOf denied
-  denied-reads d =
-      let l : formOf r .size ≤ length (r .buffer) = room (both-left (eqb (callNumber p r) 0) (refusedByLevel (p .state .level) r) d) in
-      rw (denied-step p r d, code-shown (formOf r) (form-room r) (r .buffer) writeAttempted l (omega arith)) refl
-
-  -- 4 says denied
-  denied-line : is Denied ownLine ≡ denied p r
-  denied-line =
-      by-bool (λ (b : Bool). denied p r ≡ b → is Denied ownLine ≡ b) (λ d. subst (λ (l : Line). is Denied l ≡ true) (sym (denied-reads d)) refl)
-      (undenied-by (λ (l : Line). is Denied l ≡ false) (λ call z _. rw (ne-eqb call 0 (λ e. omega arith)) refl) (λ code own. ne-eqb code writeAttempted (own .1)))
-      (denied p r) refl
-
-  -- both numbers are of 32 bits
-  pub line-fits : Fits ownLine
-  line-fits =
-      by-bool (λ (b : Bool). denied p r ≡ b → Fits ownLine) (λ d. subst Fits (sym (denied-reads d)) (omega arith, omega arith))
-      (undenied-by Fits (λ call _ k. (omega arith, omega arith)) (λ code own. let k : code ≤ 2014 = own .0 in (omega arith, omega arith)))
-      (denied p r) refl
 
 -- ---- the lines of a run
 
 module _ {X : Type 0} where
-  number-shown : {Y : Type 0} (f : Y → Bool) (g : X → Y) (xs : List X) → numberOf f (shownBy g xs) ≡ numberOf (λ (x : X). f (g x)) xs
-  unfolding numberOf shownBy
-  number-shown f g [] = refl
-  number-shown f g (x ∷ xs) = rw (number-shown f g xs) refl
-
   length-shown : {Y : Type 0} (g : X → Y) (xs : List X) → length (shownBy g xs) ≡ length xs
   unfolding shownBy
   length-shown g [] = refl
   length-shown g (x ∷ xs) = ap suc (length-shown g xs)
-
-  -- two tests that agree on every one
-  number-same : (f g : X → Bool) (xs : List X) → All (λ (x : X). f x ≡ g x) xs → numberOf f xs ≡ numberOf g xs
-  unfolding numberOf
-  number-same f g [] h = refl
-  number-same f g (x ∷ xs) h = rw (h .0, number-same f g xs (h .1)) refl
 
   all-of : (P : X → Type 0) → ((x : X) → P x) → (xs : List X) → All P xs
   all-of P h [] = tt
@@ -135,16 +45,21 @@ unfolding log Says
 all-say p [] = tt
 all-say p (r ∷ rs) = (denied-line p r, all-say (step p r) rs)
 
-counts : (p : Point) (requests : List Request) → Counts (run p requests)
+counts : (p : Point) (requests : List Request) → Counts requests (run p requests)
 unfolding tallyOf Says
 counts p requests =
     let entries : List Entry = run p requests .log in
-    let line : (Entry → Line) = λ e. lineOf (e .exchange) in
+    let shows : (Entry → Line) = λ e. lineOf (e .exchange) in
     record {
-      requests = length-shown line entries;
-      granted = number-shown (is Granted) line entries ∙ number-same (λ e. is Granted (line e)) (λ e. granted (e .exchange)) entries (all-of _ (λ e. granted-line (e .exchange)) entries);
-      denied = number-shown (is Denied) line entries ∙ number-same (λ e. is Denied (line e)) (λ e. e .denied) entries (all-say p requests);
-      short = number-shown (is Short) line entries;
+      all =
+          length-shown shows entries
+          ∙ sym (length-shown (λ (e : Entry). e .exchange .sent) entries)
+          ∙ ap length (all-noted step entryOf (λ (e : Entry). e .exchange .sent) (λ _ _. refl) p requests);
+      granted =
+          number-shown (is Granted) shows entries
+          ∙ number-alike (λ e. is Granted (shows e)) (λ e. granted (e .exchange)) entries (all-of _ (λ e. granted-line (e .exchange)) entries);
+      denied = number-shown (is Denied) shows entries ∙ number-alike (λ e. is Denied (shows e)) (λ e. e .denied) entries (all-say p requests);
+      short = number-shown (is Short) shows entries;
       sums = sums (linesOf entries);
     }
 

@@ -14,5 +14,6 @@ pub mod ReadOnly
 pub mod Reporting
 pub mod SpinUp
 pub mod OwnCodes
+pub mod Lines
 pub mod ClosingTally
 pub mod Starred

@@ -1,7 +1,6 @@
--- The return codes of the codes' own checks: none is 4, so that a reply with 4 is a denied request's. Assumes nothing.
-use mathlib.Core.Path.{_≡_, refl}
+-- The return codes of the control codes' own checks: none is 4, so that a reply with 4 is a denied request's. Assumes nothing.
 use mathlib.Core.List.{List}
-use Prim.Native.Nat.{ℕ, _≤_}
+use Prim.Native.Nat.{ℕ}
 use native.Mathlib.Omega.{arith}
 use lib.Dec.{eqb, ltb}
 use lib.ListN.{getD}
@@ -13,7 +12,7 @@ use Rattle.rows.specs.Row.{sasIndex, osIndex}
 use Rattle.adapter.specs.Adapter.{Adapter, phyIn}
 use Rattle.adapter.specs.Changed.{Changed}
 use Rattle.disk.specs.Disk.{acted, performed, Performed, ataCommand, answerOf}
-use Rattle.passthrough.specs.Passthrough.{Passed, diskOf, onDisk, passthrough}
+use Rattle.passthrough.specs.Passthrough.{Passed, onDisk, passthrough}
 use Rattle.reports.specs.Report.{Report}
 use Rattle.reports.specs.DriverInfo.{driverInfo}
 use Rattle.reports.specs.Controller.{controllerConfig, controllerStatus}

@@ -1,4 +1,5 @@
 pub mod Run
+pub mod Lines
 pub mod LastWriter
 pub mod Claim
 pub mod RoundTrip

@@ -1,5 +1,5 @@
-// The simulator for programs in other languages: its two calls, the second under either header, and a whole run, over bytes that the caller lends.
-// `ascheknopf.h` declares them for C.
+// The simulator for programs in other languages: its two calls, the second under either header, a whole run and the tally of its record, over bytes
+// that the caller lends. `ascheknopf.h` declares them for C.
 use frames::Framing;
 ghost use mathlib.Core.Path.{_≡_};
 ghost use Rattle.header.specs.declared.Kind.the-variants.{Srb, Linux};

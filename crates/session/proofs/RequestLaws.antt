@@ -22,7 +22,8 @@ use Rattle.dispatch.proofs.Laws.{heard-state, heard-medium, heard-room}
 use Rattle.frames.specs.declared.Framing.{Framing}
 use Rattle.frames.specs.declared.Prefix.{Prefix}
 use Rattle.frames.specs.Frames.{prefixSize, prefixOf, kindOf}
-use Rattle.claims.specs.ClosingTally.{codeOf}
+use Rattle.tally.specs.Kinds.{noCode}
+use Rattle.claims.specs.Lines.{codeOf}
 use Rattle.session.specs.Session.{Recorded, records, afterRequest, behindPrefix, afterFramed, beforeRests, afterFirst}
 
 -- ---- a line of the record
@@ -79,7 +80,7 @@ module _ (kind : Kind) (s : State) (medium buffer : List ℕ) (number call : ℕ
     handled-replied x z q = rw (numbered, z) q
 
     -- or the call gives a number, and nothing is written but that
-    pub handled-refused : (line : List ℕ) → (call ≡ 0 → ⊥) → line ≡ bytes 4 call ++ bytes 4 4294967295 → records p buffer line ≡ afterRequest r (handled p r)
+    pub handled-refused : (line : List ℕ) → (call ≡ 0 → ⊥) → line ≡ bytes 4 call ++ bytes 4 noCode → records p buffer line ≡ afterRequest r (handled p r)
     unfolding handled codeOf
     handled-refused line h q =
         let o : handled p r ≡ untouched call p r = rw (numbered, ne-eqb call 0 h) refl in

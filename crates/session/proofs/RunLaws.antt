@@ -19,7 +19,7 @@ use Rattle.frames.specs.declared.Framing.{Framing}
 use Rattle.frames.specs.Frames.{prefixSize, firstSize, firstOf, behindFirst, requestIn, requestsOf}
 use Rattle.tally.specs.Record.{lineBytes}
 use Rattle.tally.proofs.RecordLaws.{length-line}
-use Rattle.claims.specs.ClosingTally.{lineOf}
+use Rattle.claims.specs.Lines.{lineOf}
 use Rattle.session.specs.Session.{withReplies, recordOf, Ran, ran, shown, ranFrom, Recorded, records, afterFramed, beforeRests, afterFirst}
 use Rattle.frames.proofs.FramesLaws.{first-prefix}
 

@@ -1,9 +1,9 @@
 -- The lines of a session's record are those of its run. Assumes nothing.
 use mathlib.Core.Path.{_≡_, refl, _∙_, ap}
-use mathlib.Core.List.{List, [], _∷_, _++_}
+use mathlib.Core.List.{List, [], _∷_}
 use Prim.Native.Nat.{ℕ, _*_, _/_}
 use native.Mathlib.Omega.{arith}
-use lib.ListN.{length, take, drop, length-append}
+use lib.ListN.{length, drop, length-append}
 use lib.Seq.{take-at}
 use Rattle.laws.specs.Cases.{All}
 use Rattle.laws.specs.Fill.{listTo}
@@ -14,9 +14,9 @@ use Rattle.tally.specs.Record.{lineBytes, linesIn}
 use Rattle.tally.proofs.RecordLaws.{Fits, length-line, lines-more}
 use Rattle.header.specs.Sent.{Request}
 use Rattle.dispatch.specs.Request.{Point}
-use Rattle.claims.specs.Run.{Entry, End, step, run, wholeRun, openedAt}
-use Rattle.claims.specs.ClosingTally.{lineOf, linesOf}
-use Rattle.claims.proofs.ClosingTally.{line-fits}
+use Rattle.claims.specs.Run.{Entry, step, run, wholeRun, openedAt}
+use Rattle.claims.specs.Lines.{lineOf, linesOf}
+use Rattle.claims.proofs.Lines.{line-fits}
 use Rattle.frames.specs.Frames.{requestsOf}
 use Rattle.session.specs.Session.{recordOf, shown, sessionRun}
 use Rattle.session.specs.SessionTally.{SessionTally}

@@ -8,7 +8,7 @@ use Rattle.header.specs.Sent.{Request}
 use Rattle.service.specs.Serve.{Store}
 use Rattle.dispatch.specs.Request.{Point, Outcome, handled}
 use Rattle.claims.specs.Run.{Entry, End, exchangeOf, run, wholeRun}
-use Rattle.claims.specs.ClosingTally.{lineOf}
+use Rattle.claims.specs.Lines.{lineOf}
 use Rattle.frames.specs.declared.Framing.{Framing}
 use Rattle.frames.specs.Frames.{prefixSize, behindFirst, requestIn, requestsOf}
 

@@ -1,4 +1,4 @@
-// A session on standard input: each request a 4-byte length, then its bytes. What comes of reading on is printed and counted, the same numbers.
+// A session on standard input: each request a 4-byte length, then its bytes. Each request's line is printed and counted from one value.
 use crate::print::say_taken;
 use libc::STDIN_FILENO;
 use tally::Line;
@@ -6,12 +6,19 @@ use tally::Taken;
 use tally::Totals;
 ghost use mathlib.Core.Path.{_≡_};
 ghost use Prim.Native.Nat.{_<_, _≤_};
+ghost use lib.ListN.{length};
 ghost use Rattle.header.specs.declared.Kind.the-variants.{Srb};
 ghost use Rattle.service.specs.Serve.{storeOf};
 ghost use Rattle.dispatch.specs.Request.{RequestCall};
 ghost use Rattle.tally.specs.declared.Taken.the-variants.{Cut, End};
-ghost use Rattle.tally.specs.Totals.{Tallied};
-ghost use Rattle.simulator.specs.Line.{codeIn};
+ghost use Rattle.tally.specs.Totals.{after, Sums};
+ghost use Rattle.simulator.specs.Line.{codeIn, HandledBy};
+
+// What was taken from the session, and the totals after it.
+pub struct Step {
+    pub taken: Taken,
+    pub totals: Totals,
+}
 
 // The longest request.
 const REQUEST_LIMIT: u32 = 32768;
@@ -47,12 +54,21 @@ fn handle(state: &mut [u8], medium: &mut [u8], buffer: &mut [u8]) -> Line
     }
 }
 
-// Reads a request into all of buffer, and handles it. Input that ends within it cuts the session.
-fn read_request(state: &mut [u8], medium: &mut [u8], buffer: &mut [u8]) -> Taken {
-    if io::read_full(STDIN_FILENO, buffer) < buffer.len() {
+// A request of which n bytes were read into buffer. Input that ends within it cuts the session.
+fn filled(state: &mut [u8], medium: &mut [u8], buffer: &mut [u8], n: usize) -> Taken
+    ensures { λ r. ⌜ (n < length (now (buffer .entry)) → r ≡ Cut) ⌝ }
+    ensures { λ r. ⌜ (length (now (buffer .entry)) ≤ n → HandledBy r (now (state .entry)) (storeOf (now (medium .entry))) (now (buffer .entry))
+        (now (state .exit)) (storeOf (now (medium .exit))) (now (buffer .exit))) ⌝ }
+{
+    if n < buffer.len() {
         return Taken::Cut;
     }
     Taken::Handled(handle(state, medium, buffer))
+}
+
+fn read_request(state: &mut [u8], medium: &mut [u8], buffer: &mut [u8]) -> Taken {
+    let n = io::read_full(STDIN_FILENO, buffer);
+    filled(state, medium, buffer, n)
 }
 
 fn take_request(state: &mut [u8], medium: &mut [u8], size: usize) -> Taken
@@ -92,20 +108,32 @@ fn next_request(state: &mut [u8], medium: &mut [u8]) -> Taken {
     measured(state, medium, n, wire::read32(&length, 0))
 }
 
-// Requests are numbered from 1, and each that is numbered is counted. A proved loop has to end, and nothing says that the input does, so
-// the loop stops at a number that no session reaches; no total can pass it.
+// Reads on, prints what was taken, and counts it. Requests are numbered from 1, as they are counted.
+fn take_next(totals: Totals, state: &mut [u8], medium: &mut [u8]) -> Step
+    requires { ⌜ Sums totals ⌝ }
+    requires { ⌜ totals .requests < 18446744073709551615 ⌝ }
+    ensures { λ r. ⌜ r .totals ≡ after totals (r .taken) ⌝ }
+{
+    let taken = next_request(state, medium);
+    say_taken(totals.requests + 1, taken);
+    let counted = tally::after(totals, taken);
+    Step {
+        taken: taken,
+        totals: counted,
+    }
+}
+
+// The totals of the session. A proved loop has to end, and nothing says that the input does, so it stops at a number of requests that no
+// session reaches. No total can overflow: each is at most the number of requests, and that is below the loop's bound.
 pub fn run(state: &mut [u8], medium: &mut [u8]) -> Totals
-    ensures { λ r. ⌜ Tallied r ⌝ }
+    ensures { λ r. ⌜ Sums r ⌝ }
 {
     let mut totals = tally::none();
-    let mut number = 1u64;
-    while number < 18446744073709551615 {
-        let taken = next_request(state, medium);
-        say_taken(number, taken);
-        totals = tally::after(totals, taken);
-        if tally::goes_on(taken) {
-            number += 1;
-        } else {
+    while totals.requests < 18446744073709551615 {
+        let next = take_next(totals, state, medium);
+        let taken = next.taken;
+        totals = next.totals;
+        if tally::is_last(taken) {
             return totals;
         }
     }

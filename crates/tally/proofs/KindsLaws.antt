@@ -1,15 +1,13 @@
 -- Every line has exactly one kind. Assumes nothing.
 use mathlib.Core.Path.{_≡_, refl, sym, _∙_}
 use mathlib.Core.Bool.{Bool, true, false, not, _&&_, false≢true}
-use Prim.Native.Nat.{ℕ, _+_}
 use lib.Dec.{eqb}
 use borrow.Author.Tests.{eqb-true}
 use Rattle.laws.specs.Choice.{by-bool, both-left, both-right, and-false}
 use Rattle.tally.specs.declared.Line.{Line}
-use Rattle.tally.specs.Kinds.{LineKind, Granted, Denied, Otherwise, Short}
-use Rattle.tally.specs.Kinds.{isGranted, isDenied, isShort, isOtherwise, is, OneKind, Partition}
+use Rattle.tally.specs.Kinds.{LineKind, Granted, Denied, Otherwise, Short, isGranted, isDenied, isShort, isOtherwise, is, Partition}
 
--- the three that the numbers tell shut each other out
+-- the three that the numbers show shut each other out
 pub granted-denied : (l : Line) → isGranted l ≡ true → isDenied l ≡ false
 granted-denied l p =
     rw (eqb-true (l .code) 0 (both-right (eqb (l .call) 0) (eqb (l .code) 0) p), eqb-true (l .call) 0 (both-left (eqb (l .call) 0) (eqb (l .code) 0) p)) refl
@@ -28,15 +26,15 @@ pub denied-otherwise : (l : Line) → isDenied l ≡ true → isOtherwise l ≡ 
 denied-otherwise l p = rw (p, and-false) refl
 
 -- which of three tests that shut each other out held, if any
-unfoldable pub told : Bool → Bool → Bool → LineKind
-told true d s = Granted
-told false true s = Denied
-told false false true = Short
-told false false false = Otherwise
+unfoldable pub which : Bool → Bool → Bool → LineKind
+which true d s = Granted
+which false true s = Denied
+which false false true = Short
+which false false false = Otherwise
 
 -- a line's kind
-unfoldable pub kindOf : Line → LineKind
-kindOf l = told (isGranted l) (isDenied l) (isShort l)
+unfoldable pub lineKind : Line → LineKind
+lineKind l = which (isGranted l) (isDenied l) (isShort l)
 
 abbrev holds : Bool → Bool → Bool → LineKind → Bool
 holds g d s Granted = g
@@ -50,41 +48,41 @@ is-holds Denied l = refl
 is-holds Otherwise l = refl
 is-holds Short l = refl
 
--- the kind told is the only one
-told-only : (g d s : Bool) → (g ≡ true → d ≡ false) → (g ≡ true → s ≡ false) → (d ≡ true → s ≡ false) → (k : LineKind) → holds g d s k ≡ true → k ≡ told g d s
-unfolding told
-told-only true d s gd gs ds Granted p = refl
-told-only true d s gd gs ds Denied p = absurd (false≢true (sym (gd refl) ∙ p))
-told-only true d s gd gs ds Otherwise p = absurd (false≢true p)
-told-only true d s gd gs ds Short p = absurd (false≢true (sym (gs refl) ∙ p))
-told-only false true s gd gs ds Granted p = absurd (false≢true p)
-told-only false true s gd gs ds Denied p = refl
-told-only false true s gd gs ds Otherwise p = absurd (false≢true p)
-told-only false true s gd gs ds Short p = absurd (false≢true (sym (ds refl) ∙ p))
-told-only false false true gd gs ds Granted p = absurd (false≢true p)
-told-only false false true gd gs ds Denied p = absurd (false≢true p)
-told-only false false true gd gs ds Otherwise p = absurd (false≢true p)
-told-only false false true gd gs ds Short p = refl
-told-only false false false gd gs ds Granted p = absurd (false≢true p)
-told-only false false false gd gs ds Denied p = absurd (false≢true p)
-told-only false false false gd gs ds Otherwise p = refl
-told-only false false false gd gs ds Short p = absurd (false≢true p)
+-- the kind which is the only one
+which-only : (g d s : Bool) → (g ≡ true → d ≡ false) → (g ≡ true → s ≡ false) → (d ≡ true → s ≡ false) → (k : LineKind) → holds g d s k ≡ true → k ≡ which g d s
+unfolding which
+which-only true d s gd gs ds Granted p = refl
+which-only true d s gd gs ds Denied p = absurd (false≢true (sym (gd refl) ∙ p))
+which-only true d s gd gs ds Otherwise p = absurd (false≢true p)
+which-only true d s gd gs ds Short p = absurd (false≢true (sym (gs refl) ∙ p))
+which-only false true s gd gs ds Granted p = absurd (false≢true p)
+which-only false true s gd gs ds Denied p = refl
+which-only false true s gd gs ds Otherwise p = absurd (false≢true p)
+which-only false true s gd gs ds Short p = absurd (false≢true (sym (ds refl) ∙ p))
+which-only false false true gd gs ds Granted p = absurd (false≢true p)
+which-only false false true gd gs ds Denied p = absurd (false≢true p)
+which-only false false true gd gs ds Otherwise p = absurd (false≢true p)
+which-only false false true gd gs ds Short p = refl
+which-only false false false gd gs ds Granted p = absurd (false≢true p)
+which-only false false false gd gs ds Denied p = absurd (false≢true p)
+which-only false false false gd gs ds Otherwise p = refl
+which-only false false false gd gs ds Short p = absurd (false≢true p)
 
-told-holds : (g d s : Bool) → holds g d s (told g d s) ≡ true
-unfolding told
-told-holds true d s = refl
-told-holds false true s = refl
-told-holds false false true = refl
-told-holds false false false = refl
+which-holds : (g d s : Bool) → holds g d s (which g d s) ≡ true
+unfolding which
+which-holds true d s = refl
+which-holds false true s = refl
+which-holds false false true = refl
+which-holds false false false = refl
 
-pub kind-only : (k : LineKind) (l : Line) → is k l ≡ true → k ≡ kindOf l
-unfolding kindOf
+pub kind-only : (k : LineKind) (l : Line) → is k l ≡ true → k ≡ lineKind l
+unfolding lineKind
 kind-only k l p =
-    told-only (isGranted l) (isDenied l) (isShort l) (granted-denied l) (granted-short l) (denied-short l) k (sym (is-holds k l) ∙ p)
+    which-only (isGranted l) (isDenied l) (isShort l) (granted-denied l) (granted-short l) (denied-short l) k (sym (is-holds k l) ∙ p)
 
-pub kind-holds : (l : Line) → is (kindOf l) l ≡ true
-unfolding kindOf
-kind-holds l = is-holds (told (isGranted l) (isDenied l) (isShort l)) l ∙ told-holds (isGranted l) (isDenied l) (isShort l)
+pub kind-holds : (l : Line) → is (lineKind l) l ≡ true
+unfolding lineKind
+kind-holds l = is-holds (which (isGranted l) (isDenied l) (isShort l)) l ∙ which-holds (isGranted l) (isDenied l) (isShort l)
 
 pub partition : Partition
-partition l = record { kind = kindOf l; has = kind-holds l; only = λ k p. kind-only k l p }
+partition l = record { kind = lineKind l; has = kind-holds l; only = λ k p. kind-only k l p }

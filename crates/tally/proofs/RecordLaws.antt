@@ -15,9 +15,9 @@ use Rattle.wire.specs.Number.{bytes}
 use Rattle.wire.proofs.NumberLaws.{length-bytes, number-bytes}
 use Rattle.tally.specs.declared.Line.{Line}
 use Rattle.tally.specs.declared.Totals.{Totals}
-use Rattle.tally.specs.Totals.{noTotals, numberOf, tallyOf, counted, Tallied}
+use Rattle.tally.specs.Totals.{noTotals, numberOf, tallyOf, counted, Sums}
 use Rattle.tally.specs.Record.{lineBytes, lineAt, linesIn, totalsBytes, wrote, tallied}
-use Rattle.tally.proofs.TotalsLaws.{tally-more}
+use Rattle.tally.proofs.TotalsLaws.{tally-more, sums}
 
 -- ---- the loop over a record's lines
 
@@ -29,8 +29,8 @@ record-none lines t e = e
 pub line-within : (lines : List ℕ) (n k : ℕ) → k < n → n ≡ length lines / 8 → 8 * k + 8 ≤ length lines
 line-within lines n k h e = omega arith
 
-pub record-tallied : (lines : List ℕ) (t : Totals) (k : ℕ) → t ≡ tallyOf (listTo (lineAt lines) k) → Tallied t
-record-tallied lines t k e = record { lines = listTo (lineAt lines) k; same = e }
+pub record-sums : (lines : List ℕ) (t : Totals) (k : ℕ) → t ≡ tallyOf (listTo (lineAt lines) k) → Sums t
+record-sums lines t k e = rw e (sums (listTo (lineAt lines) k))
 
 -- as many requests as lines before it
 pub record-room : (lines : List ℕ) (t : Totals) (k n m : ℕ) → t ≡ tallyOf (listTo (lineAt lines) k) → k < n → n ≤ m → t .requests < m
@@ -46,7 +46,7 @@ pub record-done : (lines : List ℕ) (t : Totals) (n k : ℕ) → k ≤ n → n 
 unfolding linesIn
 record-done lines t n k h j e p = p ∙ ap (λ (m : ℕ). tallyOf (listTo (lineAt lines) m)) (le-antisymm h j ∙ e)
 
-pub ruleset record-loop = (record-none, line-within, record-tallied, record-room, record-more, record-done, needs)
+pub ruleset record-loop = (record-none, line-within, record-sums, record-room, record-more, record-done, needs)
 
 -- ---- lines as bytes
 

@@ -1,21 +1,18 @@
 -- Counting as the lines come gives the number of lines of each kind, and these sum to the number of lines. Assumes nothing.
-use mathlib.Core.Path.{_≡_, refl, sym, _∙_}
-use mathlib.Core.Bool.{Bool, true, false, not, _&&_, false≢true}
+use mathlib.Core.Path.{_≡_, refl, sym}
+use mathlib.Core.Bool.{Bool, true, false, not, _&&_}
 use mathlib.Core.List.{List, [], _∷_, _++_}
-use Prim.Native.Nat.{ℕ, _+_, _<_, _≤_}
+use Prim.Native.Nat.{ℕ, _+_}
 use native.Mathlib.Omega.{arith}
-use lib.ListN.{length, length-append}
-use borrow.Author.Needs.{needs}
+use lib.ListN.{length-append}
+use Rattle.laws.specs.Cases.{All}
+use Rattle.laws.specs.Runs.{shownBy}
 use Rattle.tally.specs.declared.Line.{Line}
-use Rattle.tally.specs.Kinds.{LineKind, Granted, Denied, Otherwise, Short}
-use Rattle.tally.specs.declared.Taken.{Taken}
-use Rattle.tally.specs.declared.Taken.the-variants.{Handled, Cut, End}
 use Rattle.tally.specs.declared.Totals.{Totals}
-use Rattle.tally.specs.Kinds.{is}
-use Rattle.tally.specs.Totals.{totals, one, numberOf, countOf, tallyOf, noTotals, counted, Tallied, Sums, AllSum, after, goesOn}
+use Rattle.tally.specs.Kinds.{LineKind, Granted, Denied, Otherwise, Short, isGranted, isDenied, isShort, is}
+use Rattle.tally.specs.Totals.{totals, one, numberOf, countOf, tallyOf, noTotals, counted, Sums, AllSum}
 use native.Mathlib.Nat.{add-zero}
-use Rattle.tally.specs.Kinds.{isGranted, isDenied, isShort, isOtherwise}
-use Rattle.tally.proofs.KindsLaws.{granted-denied, granted-short, denied-short, told, kindOf, kind-only, kind-holds}
+use Rattle.tally.proofs.KindsLaws.{granted-denied, granted-short, denied-short, which, lineKind, kind-only, kind-holds}
 
 -- ---- one line more
 
@@ -28,13 +25,6 @@ pub tally-more : (lines : List Line) (l : Line) → counted (tallyOf lines) l �
 unfolding tallyOf counted
 tally-more lines l =
     rw (count-more Granted lines l, count-more Denied lines l, count-more Otherwise lines l, count-more Short lines l, length-append lines (l ∷ [])) refl
-
-pub tallied-none : Tallied noTotals
-unfolding tallyOf numberOf
-tallied-none = record { lines = []; same = refl }
-
-pub tallied-more : (t : Totals) (l : Line) → Tallied t → Tallied (counted t l)
-tallied-more t l h = record { lines = h .lines ++ (l ∷ []); same = rw (h .same) (tally-more (h .lines) l) }
 
 -- ---- one total
 
@@ -52,24 +42,24 @@ countedAs Denied t = totals (t .requests + 1) (t .granted) (t .denied + 1) (t .o
 countedAs Otherwise t = totals (t .requests + 1) (t .granted) (t .denied) (t .otherwise + 1) (t .short)
 countedAs Short t = totals (t .requests + 1) (t .granted) (t .denied) (t .otherwise) (t .short + 1)
 
-told-counted : (t : Totals) (g d s : Bool) → (g ≡ true → d ≡ false) → (g ≡ true → s ≡ false) → (d ≡ true → s ≡ false)
+which-counted : (t : Totals) (g d s : Bool) → (g ≡ true → d ≡ false) → (g ≡ true → s ≡ false) → (d ≡ true → s ≡ false)
     → totals (t .requests + 1) (t .granted + one g) (t .denied + one d) (t .otherwise + one (not g && (not d && not s))) (t .short + one s)
-    ≡ countedAs (told g d s) t
-unfolding told
-told-counted t true d s gd gs ds = rw (gd refl, gs refl) (simp add-zero refl)
-told-counted t false true s gd gs ds = rw (ds refl) (simp add-zero refl)
-told-counted t false false true gd gs ds = simp add-zero refl
-told-counted t false false false gd gs ds = simp add-zero refl
+    ≡ countedAs (which g d s) t
+unfolding which
+which-counted t true d s gd gs ds = rw (gd refl, gs refl) (simp add-zero refl)
+which-counted t false true s gd gs ds = rw (ds refl) (simp add-zero refl)
+which-counted t false false true gd gs ds = simp add-zero refl
+which-counted t false false false gd gs ds = simp add-zero refl
 
-pub counted-as : (t : Totals) (k : LineKind) (l : Line) → is k l ≡ true → counted t l ≡ countedAs k t
-unfolding counted kindOf
+counted-as : (t : Totals) (k : LineKind) (l : Line) → is k l ≡ true → counted t l ≡ countedAs k t
+unfolding counted lineKind
 counted-as t k l p =
-    rw (kind-only k l p) (told-counted t (isGranted l) (isDenied l) (isShort l) (granted-denied l) (granted-short l) (denied-short l))
+    rw (kind-only k l p) (which-counted t (isGranted l) (isDenied l) (isShort l) (granted-denied l) (granted-short l) (denied-short l))
 
 -- ---- the sum
 
-counted-sums : (t : Totals) (l : Line) → Sums t → Sums (counted t l)
-counted-sums t l h = rw (counted-as t (kindOf l) l (kind-holds l)) (grown (kindOf l))
+pub counted-sums : (t : Totals) (l : Line) → Sums t → Sums (counted t l)
+counted-sums t l h = rw (counted-as t (lineKind l) l (kind-holds l)) (grown (lineKind l))
   where
     grown : (k : LineKind) → Sums (countedAs k t)
     grown Granted = omega (arith, h)
@@ -87,43 +77,16 @@ unfolding tallyOf numberOf
 sums [] = refl
 sums (l ∷ lines) = omega (arith, ones l, sums lines)
 
-pub tallied-sums : (t : Totals) → Tallied t → Sums t
-tallied-sums t h = rw (h .same) (sums (h .lines))
+-- ---- how many of a list
 
--- no total passes the number of requests
-pub within-granted : (t : Totals) (n : ℕ) → Tallied t → t .requests < n → t .granted < n
-within-granted t n h l = let e : Sums t = tallied-sums t h in omega (arith, e)
+module _ {X Y : Type 0} where
+  pub number-shown : (f : Y → Bool) (g : X → Y) (xs : List X) → numberOf f (shownBy g xs) ≡ numberOf (λ (x : X). f (g x)) xs
+  unfolding numberOf shownBy
+  number-shown f g [] = refl
+  number-shown f g (x ∷ xs) = rw (number-shown f g xs) refl
 
-pub within-denied : (t : Totals) (n : ℕ) → Tallied t → t .requests < n → t .denied < n
-within-denied t n h l = let e : Sums t = tallied-sums t h in omega (arith, e)
-
-pub within-otherwise : (t : Totals) (n : ℕ) → Tallied t → t .requests < n → t .otherwise < n
-within-otherwise t n h l = let e : Sums t = tallied-sums t h in omega (arith, e)
-
-pub within-short : (t : Totals) (n : ℕ) → Tallied t → t .requests < n → t .short < n
-within-short t n h l = let e : Sums t = tallied-sums t h in omega (arith, e)
-
--- ---- the loop over a session: each request that is numbered was counted
-
-pub session-none : (t : Totals) → t ≡ noTotals → Tallied t
-session-none t e = rw e tallied-none
-
-pub session-first : (t : Totals) → t ≡ noTotals → t .requests + 1 ≡ 1
-session-first t e = rw e refl
-
-pub session-room : (t : Totals) (number m : ℕ) → t .requests + 1 ≡ number → number < m → t .requests < m
-session-room t number m e h = omega (arith, e)
-
-pub session-tallied : (s t : Totals) (x : Taken) → Tallied t → s ≡ after t x → Tallied s
-session-tallied s t (Handled l) h e = rw e (tallied-more t l h)
-session-tallied s t Cut h e = rw e h
-session-tallied s t End h e = rw e h
-
-pub session-next : (s t : Totals) (x : Taken) (b : Bool) (number : ℕ) → t .requests + 1 ≡ number → s ≡ after t x → b ≡ goesOn x → b ≡ true
-    → s .requests + 1 ≡ number + 1
-unfolding counted
-session-next s t (Handled l) b number e p q r = rw (p, e) refl
-session-next s t Cut b number e p q r = absurd (false≢true (sym q ∙ r))
-session-next s t End b number e p q r = absurd (false≢true (sym q ∙ r))
-
-pub ruleset session-loop = (session-none, session-first, session-room, session-tallied, session-next, needs)
+-- two tests that agree on every one
+pub number-alike : {X : Type 0} (f g : X → Bool) (xs : List X) → All (λ (x : X). f x ≡ g x) xs → numberOf f xs ≡ numberOf g xs
+unfolding numberOf
+number-alike f g [] h = refl
+number-alike f g (x ∷ xs) h = rw (h .0, number-alike f g xs (h .1)) refl

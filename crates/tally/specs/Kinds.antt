@@ -30,6 +30,7 @@ isShort l = eqb (l .call) shortBuffer
 abbrev pub isOtherwise : Line → Bool
 isOtherwise l = not (isGranted l) && (not (isDenied l) && not (isShort l))
 
+-- the kinds
 pub data LineKind : Type 0 where
   Granted : LineKind
   Denied : LineKind

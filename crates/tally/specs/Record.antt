@@ -29,10 +29,11 @@ linesIn lines = listTo (lineAt lines) (length lines / 8)
 
 -- ---- totals
 
--- as bytes: 64 bits each, in the order of the line `total`
+-- the last three, as bytes
 abbrev pub refusedBytes : Totals → List ℕ
 refusedBytes t = bytes 8 (t .denied) ++ (bytes 8 (t .otherwise) ++ bytes 8 (t .short))
 
+-- all five: 64 bits each, in the order of the line `total`
 abbrev pub totalsBytes : Totals → List ℕ
 totalsBytes t = bytes 8 (t .requests) ++ (bytes 8 (t .granted) ++ refusedBytes t)
 

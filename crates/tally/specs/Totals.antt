@@ -5,11 +5,10 @@ use mathlib.Core.List.{List, [], _∷_}
 use Prim.Native.Nat.{ℕ, _+_}
 use lib.ListN.{length}
 use Rattle.tally.specs.declared.Line.{Line}
-use Rattle.tally.specs.Kinds.{LineKind, Granted, Denied, Otherwise, Short}
 use Rattle.tally.specs.declared.Taken.{Taken}
 use Rattle.tally.specs.declared.Taken.the-variants.{Handled, Cut, End}
 use Rattle.tally.specs.declared.Totals.{Totals}
-use Rattle.tally.specs.Kinds.{is}
+use Rattle.tally.specs.Kinds.{LineKind, Granted, Denied, Otherwise, Short, is}
 
 -- "`total`, then requests, granted, denied, otherwise refused and 100s"
 abbrev pub totals : ℕ → ℕ → ℕ → ℕ → ℕ → Totals
@@ -37,6 +36,7 @@ tallyOf lines = totals (length lines) (countOf Granted lines) (countOf Denied li
 abbrev pub Sums : Totals → Type 0
 Sums t = t .requests ≡ t .granted + t .denied + t .otherwise + t .short
 
+-- of any lines
 abbrev pub AllSum : Type 0
 AllSum = (lines : List Line) → Sums (tallyOf lines)
 
@@ -52,19 +52,14 @@ counted t l =
     totals (t .requests + 1) (t .granted + one (is Granted l)) (t .denied + one (is Denied l)) (t .otherwise + one (is Otherwise l))
     (t .short + one (is Short l))
 
--- the totals are those of some lines
-pub record Tallied (t : Totals) : Type 0 where
-  pub lines : List Line
-  pub same : t ≡ tallyOf lines
-
 -- "A cut request counts nowhere"
 abbrev pub after : Totals → Taken → Totals
 after t (Handled l) = counted t l
 after t Cut = t
 after t End = t
 
--- a session goes on behind a request that was handled
-abbrev pub goesOn : Taken → Bool
-goesOn (Handled l) = true
-goesOn Cut = false
-goesOn End = false
+-- "ends it": nothing is read behind a cut request, nor at the end
+abbrev pub isLast : Taken → Bool
+isLast (Handled l) = false
+isLast Cut = true
+isLast End = true

@@ -1,12 +1,11 @@
 // The closing tally of a session (W-206): a kind for each request's line, by the two numbers that it shows, and how many lines of each kind there are.
 mod record;
 
-pub use record::tally;
 pub use record::write_tally;
 ghost use mathlib.Core.Path.{_≡_};
 ghost use Prim.Native.Nat.{_+_, _<_};
 ghost use Rattle.tally.specs.Kinds.{isGranted, isDenied, isShort, isOtherwise};
-ghost use Rattle.tally.specs.Totals.{one, noTotals, counted, after, goesOn, Tallied};
+ghost use Rattle.tally.specs.Totals.{one, noTotals, counted, after, isLast, Sums};
 
 // A request's line: the call's number, and the return code where that is 0.
 pub struct Line {
@@ -27,6 +26,7 @@ pub enum Taken {
     End,
 }
 
+// How many lines there are, and how many of each kind: `otherwise` is otherwise refused, `short` the 100s.
 pub struct Totals {
     pub requests: u64,
     pub granted: u64,
@@ -83,9 +83,9 @@ pub fn none() -> Totals
     }
 }
 
-// One line more. No total is larger than the number of requests, so that this one has room is enough.
+// One line more. The four sum to the requests, so room for one more request is room in each.
 pub fn count(totals: Totals, line: Line) -> Totals
-    requires { ⌜ Tallied totals ⌝ }
+    requires { ⌜ Sums totals ⌝ }
     requires { ⌜ totals .requests < 18446744073709551615 ⌝ }
     ensures { λ r. ⌜ r ≡ counted totals line ⌝ }
 {
@@ -100,7 +100,7 @@ pub fn count(totals: Totals, line: Line) -> Totals
 
 // After what was taken from a session.
 pub fn after(totals: Totals, taken: Taken) -> Totals
-    requires { ⌜ Tallied totals ⌝ }
+    requires { ⌜ Sums totals ⌝ }
     requires { ⌜ totals .requests < 18446744073709551615 ⌝ }
     ensures { λ r. ⌜ r ≡ after totals taken ⌝ }
 {
@@ -111,13 +111,13 @@ pub fn after(totals: Totals, taken: Taken) -> Totals
     }
 }
 
-// A session goes on behind a request that was handled.
-pub fn goes_on(taken: Taken) -> bool
-    ensures { λ r. ⌜ r ≡ goesOn taken ⌝ }
+// Nothing is read behind a cut request, nor at the end.
+pub fn is_last(taken: Taken) -> bool
+    ensures { λ r. ⌜ r ≡ isLast taken ⌝ }
 {
     match taken {
-        Taken::Handled(line) => true,
-        Taken::Cut => false,
-        Taken::End => false,
+        Taken::Handled(line) => false,
+        Taken::Cut => true,
+        Taken::End => true,
     }
 }

@@ -27,7 +27,7 @@ fn line_at(lines: &[u8], k: usize) -> Line
 }
 
 // The totals of the whole lines of a record.
-pub fn tally(lines: &[u8]) -> Totals
+fn tally(lines: &[u8]) -> Totals
     ensures { λ r. ⌜ r ≡ tallyOf (linesIn (now (lines .entry))) ⌝ }
 {
     let mut totals = none();

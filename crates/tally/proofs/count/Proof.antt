@@ -1,6 +1,5 @@
 -- `tally::count` meets its contract. Assumes nothing.
 use Rattle.tally.specs.Totals.{counted}
-use Rattle.tally.proofs.TotalsLaws.{within-granted, within-denied, within-otherwise, within-short}
 use borrow.Author.Needs.{needs}
 use Rattle.tally.proofs.count.Statement.{statement}
 use Rattle.tally.proofs.count.Tie as tie
@@ -9,6 +8,6 @@ pub count-spec : {M : Type 1} → statement M
 unfolding counted
 count-spec =
     tie.close
-    (tie.spec (λ c. search needs) (λ c κs. search needs) (λ c κs. search (within-granted, needs))
-    (λ c κs. search needs) (λ c κs. search (within-denied, needs)) (λ c κs. search needs)
-    (λ c κs. search (within-otherwise, needs)) (λ c κs. search needs) (λ c κs. search (within-short, needs)) (λ c. cc))
+    (tie.spec (λ c. search needs) (λ c κs. search needs) (λ c κs. search needs)
+    (λ c κs. search needs) (λ c κs. search needs) (λ c κs. search needs)
+    (λ c κs. search needs) (λ c κs. search needs) (λ c κs. search needs) (λ c. cc))
