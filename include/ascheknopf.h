@@ -181,7 +181,7 @@ size_t ascheknopf_run_both(const uint8_t *text, size_t text_len,
 #define ASCHEKNOPF_TOTALS_DENIED 16            /* number 0 and return code 4 */
 #define ASCHEKNOPF_TOTALS_OTHERWISE_REFUSED 24 /* number 0 and any other return code, 2000 too; or any number but 0 and 100, such as 107,
                                                   whatever stands in the place of its return code */
-#define ASCHEKNOPF_TOTALS_SHORT 32             /* number 100, whatever stands there */
+#define ASCHEKNOPF_TOTALS_SHORT 32             /* number 100, whatever its return code */
 
 /* Counts the lines of a record and writes the totals: 0. A rest of the record under 8 bytes counts nowhere. Where fewer than
    ASCHEKNOPF_TOTALS_SIZE bytes are lent for the totals it gives 100, and they stay as they were; bytes past these stay too. The record is

@@ -141,10 +141,14 @@ class Adapter:
     def tally(self):
         """What the requests since the opening came to, counted by the library on the record."""
         totals = bytearray(TOTALS_SIZE)
-        self.library.ascheknopf_tally(*lent(self.record), *lent(totals))
+        number = self.library.ascheknopf_tally(*lent(self.record), *lent(totals))
+        if number != 0:
+            print(f"no tally: refused with {number}")
+            return
         requests, *kinds = struct.unpack("<5Q", totals)
         words = "granted", "denied", "otherwise refused", "refused with 100"
         print(f"{requests} requests: {', '.join(f'{count} {kind}' for count, kind in zip(kinds, words))}")
+
 
 def show_controller(adapter, reply):
     if reply:

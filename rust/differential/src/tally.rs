@@ -8,7 +8,7 @@ use crate::random::Random;
 use crate::side::Side;
 use crate::wire::{equal_bytes, put_word, word};
 use library::Totals;
-use model::Kind;
+use model::LineKind;
 
 /// Calls' numbers and return codes at the borders of the kinds, those that are one in their low byte or in another among them.
 pub const NUMBERS: [u32; 12] = [
@@ -76,13 +76,8 @@ pub fn agreed(lines: &[u8]) -> Result<Totals, String> {
 }
 
 fn summed(totals: Totals) -> Result<Totals, String> {
-    let kinds = [
-        totals.granted,
-        totals.denied,
-        totals.otherwise_refused,
-        totals.short,
-    ];
-    if kinds.iter().sum::<u64>() == totals.requests {
+    let [requests, kinds @ ..] = totals.in_order();
+    if kinds.iter().sum::<u64>() == requests {
         return Ok(totals);
     }
     Err(format!("the last four do not sum to the first: {totals:?}"))
@@ -109,31 +104,31 @@ pub fn of_run(case: &Case, outcome: &Outcome) -> Result<Totals, String> {
 /// The totals by requests and replies, without the record.
 fn of_replies(case: &Case, outcome: &Outcome) -> Totals {
     let exchanges = case.exchanges(outcome);
-    let kinds: Vec<Kind> = exchanges.iter().map(|one| kind(outcome, one)).collect();
+    let kinds: Vec<LineKind> = exchanges.iter().map(|one| kind(outcome, one)).collect();
     let of = |kind| kinds.iter().filter(|&&of| of == kind).count() as u64;
     Totals {
         requests: outcome.handled as u64,
-        granted: of(Kind::Granted),
-        denied: of(Kind::Denied),
-        otherwise_refused: of(Kind::OtherwiseRefused),
-        short: of(Kind::Short),
+        granted: of(LineKind::Granted),
+        denied: of(LineKind::Denied),
+        otherwise_refused: of(LineKind::OtherwiseRefused),
+        short: of(LineKind::Short),
     }
 }
 
 /// After a refused opening all are otherwise refused; else a buffer too short for its header is a 100, those that document 01 denies are
 /// denied, and of the rest those are granted whose reply says so.
-fn kind(outcome: &Outcome, exchange: &Exchange) -> Kind {
+fn kind(outcome: &Outcome, exchange: &Exchange) -> LineKind {
     let level = outcome.state.as_ref().expect("the state is shown")[state::LEVEL];
     let (header, sent) = (exchange.header, exchange.request);
     if outcome.opening != call::DONE {
-        Kind::OtherwiseRefused
+        LineKind::OtherwiseRefused
     } else if sent.len() < header.size() {
-        Kind::Short
+        LineKind::Short
     } else if need::denied(level, header, sent) {
-        Kind::Denied
+        LineKind::Denied
     } else if word(exchange.reply, header.return_code()) == status::SUCCESS {
-        Kind::Granted
+        LineKind::Granted
     } else {
-        Kind::OtherwiseRefused
+        LineKind::OtherwiseRefused
     }
 }

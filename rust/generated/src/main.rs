@@ -1,5 +1,5 @@
 //! Runs the simulator in generated folders: `generated SIMULATOR [FOLDERS [SEED]]`. What it prints has to be what the model prints, byte
-//! for byte. One line for each folder where it is not, and for each thing that no folder had; the last line says how many there were.
+//! for byte. One line for each folder where it is not, and for each thing that no seed had; the last line says how many there were.
 
 mod folder;
 mod met;
@@ -30,30 +30,52 @@ fn main() -> ExitCode {
     }
 }
 
-/// Compares the folders of these seeds, and last the long one.
+/// Compares the folders of these seeds, and last the long one. What has to be met the seeds meet: the long one alone has every kind.
 fn compare(simulator: &Path, seeds: std::ops::Range<u64>) -> ExitCode {
-    let scratch = Scratch::new();
-    let (mut met, mut failed) = (Met::default(), 0);
-    let generated = seeds.map(|seed| (format!("seed {seed}"), Folder::of_seed(seed)));
-    let long = [("the long session".to_string(), Folder::long())];
-    let mut compared = 0;
-    for (name, folder) in generated.chain(long) {
-        let expected = folder.expected();
-        met.see(&expected);
-        compared += 1;
-        if let Err(reason) = prints(simulator, &scratch.0, folder.input(), &expected) {
-            failed += 1;
-            println!("FAIL {name}: {reason}");
-        }
+    let mut comparison = Comparison {
+        simulator,
+        scratch: Scratch::new(),
+        compared: 0,
+        failed: 0,
+    };
+    let mut met = Met::default();
+    for seed in seeds {
+        met.see(&comparison.compare(&format!("seed {seed}"), &Folder::of_seed(seed)));
     }
+    comparison.compare("the long session", &Folder::long());
     let missing = met.missing();
     missing
         .iter()
-        .for_each(|what| println!("FAIL no folder had {what}"));
+        .for_each(|what| println!("FAIL no seed had {what}"));
+    let Comparison {
+        compared, failed, ..
+    } = comparison;
     println!("{compared} folders compared, {failed} differ");
     match failed + missing.len() {
         0 => ExitCode::SUCCESS,
         _ => ExitCode::FAILURE,
+    }
+}
+
+/// The folders compared so far.
+struct Comparison<'a> {
+    simulator: &'a Path,
+    scratch: Scratch,
+    compared: usize,
+    failed: usize,
+}
+
+impl Comparison<'_> {
+    /// Compares a folder; gives what the model prints in it.
+    fn compare(&mut self, name: &str, folder: &Folder) -> String {
+        let expected = folder.expected();
+        let compared = prints(self.simulator, &self.scratch.0, folder.input(), &expected);
+        self.compared += 1;
+        if let Err(reason) = compared {
+            self.failed += 1;
+            println!("FAIL {name}: {reason}");
+        }
+        expected
     }
 }
 

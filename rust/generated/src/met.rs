@@ -1,6 +1,6 @@
 //! What the folders had, by what was printed: a comparison says nothing of what it did not meet.
 
-use labkit::report::{Total, Transcript, COUNTED};
+use labkit::report::{Totals, Transcript, COUNTED};
 
 /// The numbers with which an opening of the program refuses.
 const REFUSALS: std::ops::RangeInclusive<u32> = 101..=105;
@@ -24,18 +24,18 @@ impl Met {
     pub fn see(&mut self, printed: &str) {
         match Transcript::parse(printed).expect("the kit reads what the model prints") {
             Transcript::Refused(number) => self.openings.push(number),
-            Transcript::Run { answers, cut } => self.see_run(Total::of(&answers), cut),
+            Transcript::Run { answers, cut } => self.see_run(Totals::of(&answers), cut),
         }
     }
 
-    fn see_run(&mut self, total: Total, cut: bool) {
-        let requests = total.0[0];
+    fn see_run(&mut self, totals: Totals, cut: bool) {
+        let requests = totals.0[0];
         self.whole += usize::from(!cut && requests > 0);
         self.cut += usize::from(cut && requests > 0);
         self.empty += usize::from(!cut && requests == 0);
         self.cut_first += usize::from(cut && requests == 0);
         self.long += usize::from(requests >= LONG);
-        for (sum, number) in self.totals.iter_mut().zip(total.0) {
+        for (sum, number) in self.totals.iter_mut().zip(totals.0) {
             *sum += number;
         }
     }
@@ -43,11 +43,11 @@ impl Met {
     /// What was not met.
     pub fn missing(&self) -> Vec<String> {
         let sessions = [
-            (self.whole, "whole session"),
-            (self.cut, "session cut behind requests"),
-            (self.empty, "empty session"),
-            (self.cut_first, "session cut in its first request"),
-            (self.long, "session of 256 requests"),
+            (self.whole, "a whole session"),
+            (self.cut, "a session cut behind requests"),
+            (self.empty, "an empty session"),
+            (self.cut_first, "a session cut in its first request"),
+            (self.long, "a session of 256 requests"),
         ];
         let openings = REFUSALS.filter(|number| !self.openings.contains(number));
         let sessions = sessions.into_iter().filter(|(count, _)| *count == 0);
@@ -55,8 +55,48 @@ impl Met {
         let kinds = kinds.filter(|(_, sum)| *sum == 0);
         openings
             .map(|number| format!("open {number}"))
-            .chain(sessions.map(|(_, what)| format!("a {what}")))
-            .chain(kinds.map(|(name, _)| name.to_string()))
+            .chain(sessions.map(|(_, what)| what.to_string()))
+            .chain(kinds.map(|(name, _)| format!("any {name}")))
             .collect()
+    }
+}
+
+#[cfg(test)]
+mod tests {
+    use super::*;
+    use crate::folder::Folder;
+    use crate::{FOLDERS, SEED};
+
+    #[test]
+    fn nothing_was_met() {
+        let missing = Met::default().missing();
+        let expected = [
+            "open 101",
+            "open 102",
+            "open 103",
+            "open 104",
+            "open 105",
+            "a whole session",
+            "a session cut behind requests",
+            "an empty session",
+            "a session cut in its first request",
+            "a session of 256 requests",
+            "any requests",
+            "any granted",
+            "any denied",
+            "any otherwise refused",
+            "any 100s",
+        ];
+        assert_eq!(missing, expected);
+    }
+
+    /// Without the long session, and without a simulator.
+    #[test]
+    fn the_usual_seeds_meet_all() {
+        let mut met = Met::default();
+        for seed in SEED..SEED + FOLDERS {
+            met.see(&Folder::of_seed(seed).expected());
+        }
+        assert_eq!(met.missing(), [""; 0]);
     }
 }

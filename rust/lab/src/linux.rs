@@ -87,17 +87,33 @@ fn of_all(marking: &Marking) -> String {
 
 /// How many there are, in the mark of a session that has Linux requests.
 pub fn in_mark(marking: &Marking) -> Option<String> {
-    let each = |i: usize| format!("{} {}", marking.above(i), marking.runs[i].name);
     marking.has_linux().then(|| match marking.runs.len() {
         2 => format!(
             "{} above the low level",
             counted(marking.above(0), "Linux request")
         ),
-        runs => {
-            let each: Vec<String> = (0..runs).map(each).collect();
-            format!("Linux requests above the level: {}", each.join(", "))
-        }
+        _ => format!("Linux requests above the level: {}", of_each(marking)),
     })
+}
+
+/// What stands below the tally of a session that has Linux requests, as the tally does not show it: the mark's number of them. Without
+/// a mark it is not known.
+pub fn below_tally(marking: &Marking) -> Option<String> {
+    let above = match (&marking.no_mark, marking.runs.len(), marking.above(0)) {
+        (Some(_), _, _) => String::new(),
+        (None, 2, 1) => "; 1 needs more than the low level".to_string(),
+        (None, 2, count) => format!("; {count} need more than the low level"),
+        (None, _, _) => format!("; above the level: {}", of_each(marking)),
+    };
+    let has_linux = marking.has_linux();
+    has_linux.then(|| format!("Linux requests are never denied{above}"))
+}
+
+/// The number of each run: `11 None, 2 Restricted`.
+fn of_each(marking: &Marking) -> String {
+    let of = |i: usize| format!("{} {}", marking.above(i), marking.runs[i].name);
+    let each: Vec<String> = (0..marking.runs.len()).map(of).collect();
+    each.join(", ")
 }
 
 /// `a`, `a and b`, `a, b and c`.

@@ -13,7 +13,7 @@ use crate::row::Row;
 use crate::run::Run;
 use crate::verdict;
 use labkit::adapter::{warnings as adapter_warnings, PROGRAM_PHYS};
-use labkit::report::{Difference, Total};
+use labkit::report::{Difference, Totals};
 use labkit::session::{Request, Session, STP_PASSTHRU};
 use std::collections::HashSet;
 use std::path::Path;
@@ -25,6 +25,8 @@ pub struct Marking<'a> {
     pub linux: usize,
     /// The runs as they ended.
     pub runs: Vec<Run>,
+    /// Whether the session was run. One without requests is, too.
+    pub was_run: bool,
     pub rows: Vec<Row>,
     /// The lines of the front page that the session asked for, with each run's words.
     pub front: Vec<Difference>,
@@ -58,7 +60,9 @@ impl<'a> Marking<'a> {
             .iter()
             .map(|text| open(text.run, &text.bytes))
             .collect();
-        let no_mark = verdict::before(exercise, &runs, &session);
+        let not_run = verdict::not_run(exercise, &runs);
+        let was_run = not_run.is_none();
+        let no_mark = not_run.or_else(|| verdict::nothing_sent(exercise, &session));
         let mut marking = Marking {
             exercise,
             linux: session.linux(),
@@ -66,6 +70,7 @@ impl<'a> Marking<'a> {
             warnings: warnings(exercise, &runs, &session),
             requests: session.requests,
             runs,
+            was_run,
             rows: Vec::new(),
             front: Vec::new(),
             left: Vec::new(),
@@ -116,10 +121,9 @@ impl<'a> Marking<'a> {
     }
 
     /// The tally of each run; nothing where the session was not run.
-    pub fn tallies(&self) -> Vec<Total> {
-        let opened = self.runs.iter().all(|run| run.opening == 0);
-        let ran = opened && self.rows.len() == self.requests.len();
-        self.runs.iter().filter(|_| ran).map(Run::tally).collect()
+    pub fn tallies(&self) -> Vec<Totals> {
+        let tallied = self.runs.iter().filter(|_| self.was_run);
+        tallied.map(Run::tally).collect()
     }
 
     pub fn differing(&self) -> usize {

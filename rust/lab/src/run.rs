@@ -2,7 +2,7 @@
 
 use crate::answer::Answer;
 use crate::state;
-use labkit::report::Total;
+use labkit::report::Totals;
 use labkit::session::{Header, Request};
 use library::record::NO_CODE;
 
@@ -63,15 +63,8 @@ impl Run {
     }
 
     /// What its requests came to: the library's tally of the record.
-    pub fn tally(&self) -> Total {
-        let totals = library::Totals::of_record(&self.record);
-        Total([
-            totals.requests,
-            totals.granted,
-            totals.denied,
-            totals.otherwise_refused,
-            totals.short,
-        ])
+    pub fn tally(&self) -> Totals {
+        Totals(library::Totals::of_record(&self.record).in_order())
     }
 
     /// Takes the state and the medium of another run.

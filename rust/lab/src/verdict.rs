@@ -15,8 +15,9 @@ const NOTHING_ASKED: &str =
     "no request gets past its header's checks, so no level was asked for anything";
 const NOT_AS_PROVED: &str = "the high run without the requests denied low is not the low run, as it is proved to be; make the library anew: rt staticlib exports";
 
-/// Why no request is run at all; none if the runs may begin.
-pub fn before(exercise: &Exercise, runs: &[Run], session: &Session) -> Option<String> {
+/// Why the session is not run, whatever it holds: an opening is refused, the levels are the wrong way round, or its name is that of the
+/// other form.
+pub fn not_run(exercise: &Exercise, runs: &[Run]) -> Option<String> {
     let refused = exercise
         .texts
         .iter()
@@ -34,9 +35,11 @@ pub fn before(exercise: &Exercise, runs: &[Run], session: &Session) -> Option<St
             ));
         }
     }
-    if exercise.misnamed.is_some() {
-        return exercise.misnamed.clone();
-    }
+    exercise.misnamed.clone()
+}
+
+/// Why a session that is run sends nothing: it is empty, or is cut in its first request.
+pub fn nothing_sent(exercise: &Exercise, session: &Session) -> Option<String> {
     match (session.requests.is_empty(), session.is_whole()) {
         (true, true) => Some(format!("the session of {} is empty", exercise.session.from)),
         (true, false) => Some(cut(session, 0)),

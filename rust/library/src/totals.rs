@@ -41,6 +41,17 @@ impl Totals {
             short: at(SHORT),
         }
     }
+
+    /// The five numbers in their order.
+    pub fn in_order(&self) -> [u64; 5] {
+        [
+            self.requests,
+            self.granted,
+            self.denied,
+            self.otherwise_refused,
+            self.short,
+        ]
+    }
 }
 
 fn u64_at(bytes: &[u8; SIZE], at: usize) -> u64 {

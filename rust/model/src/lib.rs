@@ -32,4 +32,4 @@ pub use file::{block_check, open};
 pub use program::program;
 pub use request::{answer, answer_linux, denied, request, request_linux, tested};
 pub use state::{Connector, Phy, Row, State};
-pub use tally::{Kind, Line, Totals};
+pub use tally::{Line, LineKind, Totals};

@@ -16,7 +16,7 @@ pub struct Line {
 
 /// What a line counts as.
 #[derive(Clone, Copy, PartialEq, Eq, Debug)]
-pub enum Kind {
+pub enum LineKind {
     /// "a return code of 0 or 2000": by section 10 both are 0, and its 2000 is a refusal.
     Granted,
     /// "denied 4".
@@ -46,12 +46,12 @@ impl Line {
     }
 
     /// The return code decides where one was written, the call's number elsewhere.
-    pub fn kind(&self) -> Kind {
+    pub fn kind(&self) -> LineKind {
         match (self.number, self.code) {
-            (call::DONE, status::SUCCESS) => Kind::Granted,
-            (call::DONE, status::WRITE_ATTEMPTED) => Kind::Denied,
-            (call::BUFFER_LENGTH, _) => Kind::Short,
-            _ => Kind::OtherwiseRefused,
+            (call::DONE, status::SUCCESS) => LineKind::Granted,
+            (call::DONE, status::WRITE_ATTEMPTED) => LineKind::Denied,
+            (call::BUFFER_LENGTH, _) => LineKind::Short,
+            _ => LineKind::OtherwiseRefused,
         }
     }
 }
@@ -62,10 +62,10 @@ impl Totals {
         let of = |kind| lines.iter().filter(|line| line.kind() == kind).count();
         Totals {
             requests: lines.len(),
-            granted: of(Kind::Granted),
-            denied: of(Kind::Denied),
-            otherwise_refused: of(Kind::OtherwiseRefused),
-            short: of(Kind::Short),
+            granted: of(LineKind::Granted),
+            denied: of(LineKind::Denied),
+            otherwise_refused: of(LineKind::OtherwiseRefused),
+            short: of(LineKind::Short),
         }
     }
 
@@ -74,21 +74,23 @@ impl Totals {
         let lines = record.as_chunks().0.iter().map(Line::from_bytes);
         Totals::of_lines(&lines.collect::<Vec<_>>())
     }
+
+    /// The five numbers in the order of the program's last line.
+    pub fn in_order(&self) -> [usize; 5] {
+        [
+            self.requests,
+            self.granted,
+            self.denied,
+            self.otherwise_refused,
+            self.short,
+        ]
+    }
 }
 
 /// The program's last line.
 impl fmt::Display for Totals {
     fn fmt(&self, f: &mut fmt::Formatter) -> fmt::Result {
-        let Totals {
-            requests,
-            granted,
-            denied,
-            otherwise_refused,
-            short,
-        } = self;
-        write!(
-            f,
-            "total {requests} {granted} {denied} {otherwise_refused} {short}"
-        )
+        let numbers = self.in_order().map(|number| number.to_string());
+        write!(f, "total {}", numbers.join(" "))
     }
 }

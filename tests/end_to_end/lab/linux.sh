@@ -43,6 +43,9 @@ try "its warning" marks 1 "warning requests 2 and 4 have the Linux header and ru
 try "the line of its write" marks 1 " 2 linux stp-passthru phy 0: write LBA 3 count 1 0 success; ATA 50h 00h success 0 success; ATA 50h 00h success runs as Full; denied low under the first header" "$dir"
 try "the line of its read" marks 1 " 3 linux stp-passthru phy 0: read LBA 3 count 1 0 success; ATA 50h 00h success 0 success; ATA 50h 00h success" "$dir"
 try "it has no trial" unmarked "tried:" "$dir"
+dir=$(with linux_tally session.txt "linux set-phy-info phy=0\nlinux set-phy-info phy=1\nlinux get-link-errors phy=0 reset=1\n")
+try "the tally of a Linux console that writes" marks 1 " denied 0 0" "$dir"
+try "what stands below it" marks 1 "Linux requests are never denied; 3 need more than the low level" "$dir"
 dir=$(with linux_reads session.txt "linux get-phy-info\nlinux get-link-errors phy=0\n$read_disk\n")
 try "a Linux console that reads" marks 0 "mark: 0 of 3 differ, 0 denied low, 0 Linux requests above the low level; what they left is the same" "$dir"
 try "it has no warning" unmarked warning "$dir"
@@ -100,6 +103,7 @@ linux_page() {
     [ $? -eq 1 ] && diff /dev/null "$work/errors" && self_contained &&
         has 1 '<p class="mark">mark: 2 of 15 differ, 1 denied low, 2 Linux requests above the low level; 1 value and 0 sectors left differ</p>' &&
         has 1 '<p class="warning">warning: requests 8 and 9 have the Linux header' &&
+        has 1 '<p class="note">Linux requests are never denied; 2 need more than the low level</p>' &&
         has 2 '<tr class="above"><td class="number">[89]</td>.*<td class="word">runs as Full; denied low under the first header</td></tr>' &&
         has 2 '<tr class="differs"><td class="number">1[12]</td>' && has 14 '<td class="request">linux ' &&
         has 1 '<th>no</th><th>request</th><th>low</th><th>high</th><th>remarks</th>' && has 4 '<th>low</th><th>high</th><th>differs</th>'

@@ -81,10 +81,15 @@ levels_in_page() {
 }
 try "the tally of all levels in the page" levels_in_page
 try "a tally without a mark" no_mark " otherwise refused 5 5" "$work/headers"
+csv_without_a_mark() {
+    marks 2 "tally,,otherwise refused,5,5,," --csv "$work/headers" && ! grep -q '^denied,' "$work/printed"
+}
+try "a tally without a mark in CSV, and no line of kind denied" csv_without_a_mark
 try "short buffers of both headers" marks 2 " 100s 2 2" "$work/linux_headers"
 
 # 3: no tally where the session was not run
 untallied() {
+    rm -f "$page"
     no_mark "no tally: the session was not run" "$1" && ! grep -q '^tally' "$work/printed" && marks 2 '"tally": null}, {' --json "$1" &&
         unmarked tally --csv "$1" && ! "$lab" --html "$page" "$1" >/dev/null && has 1 '<p class="note">no tally: the session was not run</p>' && has 0 Tally
 }
@@ -93,6 +98,12 @@ try "no tally, a level text that is refused" untallied "$work/low_101"
 try "no tally, another level text that is refused" untallied "$work/high_101"
 try "no tally, levels the wrong way round" untallied "$work/turned"
 try "no tally, a session under the name of the other form" untallied "$work/named_writer"
+dir=$(exercise tally_renamed) && rm "$dir/session.txt" && cp samples/writes/session "$dir/session.both"
+try "no tally, the other way round" untallied "$dir"
+dir=$(levels tally_turned "CSMI=Full;" "CSMI=Restricted;") && : >"$dir/session.txt"
+try "no tally, levels the wrong way round and an empty session" untallied "$dir"
+echo "tail 05" >"$dir/session.txt"
+try "no tally, levels the wrong way round and a session cut in its first request" untallied "$dir"
 of_zeros() {
     no_mark "$1" "$2" && diff <(echo "total 0 0 0 0 0") <(tally_of 1 "$2") && diff <(echo "total 0 0 0 0 0") <(tally_of 2 "$2")
 }
@@ -102,9 +113,11 @@ try "the tally of a session cut in its first request" of_zeros "the session is c
 # 4: transcripts end with the total of their lines
 compared_totals() {
     program refusals low >"$work/low.printed" && program refusals high >"$work/high.printed" &&
-        "$kit" compare samples/refusals/session "$work/low.printed" "$work/high.printed" | tail -n 7 | tr -s ' ' | diff - <(
+        "$kit" compare samples/refusals/session "$work/low.printed" "$work/high.printed" | tail -n 9 | tr -s ' ' | diff - <(
             cat <<'END'
  a last request, cut
+
+ tally low high
  requests 16 16
  granted 1 2
  denied 3 0
@@ -122,7 +135,7 @@ transcript_refused() {
     refuses 1 "$line" "$kit" compare samples/writes/session "$work/transcript" "$good" && refuses 1 "$line" "$kit" compare samples/writes/session "$good" "$work/transcript"
 }
 lines=$(head -n 13 "$work/replies/low.codes")
-no_total="the last line is no total, with which a run ends since W-206"
+no_total="the last line is no total, with which a run ends since W-206: run the program again"
 try "a transcript from before W-206" transcript_refused "line 13: $no_total" "$lines\n"
 try "one that is cut" transcript_refused "line 14: $no_total" "$lines\ncut\n"
 try "one with a line behind the total" transcript_refused "line 15: $no_total" "$lines\ntotal 12 5 6 1 0\ncut\n"

@@ -1,10 +1,10 @@
-//! The report as one page that needs nothing from elsewhere: both runs side by side, what differs marked by colour and by word,
-//! the counters, and the sectors that a run changed. It is fit to be printed.
+//! The report as one page that needs nothing from elsewhere: the mark and the tally, both runs side by side, what differs marked by
+//! colour and by word, the counters, and the sectors that a run changed. It is fit to be printed.
 
 use super::escape::html as plain;
-use super::{explained, group, head, pairs, remarks, tally, verdict, NO_TALLY};
+use super::{explained, group, head, pairs, remarks, verdict, NO_TALLY};
 use crate::left::{sectors, COUNTERS, GROUPS};
-use crate::linux::coloured;
+use crate::linux::{below_tally, coloured};
 use crate::marking::Marking;
 use crate::row::Row;
 use crate::state::{parts, phy_at, PHY_SIZE, SECTOR};
@@ -26,7 +26,7 @@ pub fn html(marking: &Marking) -> String {
         let class = if name == "warning" { "warning" } else { "head" };
         out.push_str(&paragraph(class, &format!("{name}: {words}")));
     }
-    out.push_str(&totals(marking));
+    out.push_str(&tally(marking));
     if !marking.rows.is_empty() {
         out.push_str(&requests(marking));
         if !marking.front.is_empty() {
@@ -48,9 +48,9 @@ fn section(title: &str, content: &str) -> String {
     format!("<h2>{title}</h2>\n{content}")
 }
 
-/// The tally of each run.
-fn totals(marking: &Marking) -> String {
-    let numbers = tally(marking);
+/// The tally of each run, and below it what it does not show of Linux requests.
+fn tally(marking: &Marking) -> String {
+    let numbers = super::tally(marking);
     if numbers.is_empty() {
         return paragraph("note", NO_TALLY);
     }
@@ -60,7 +60,11 @@ fn totals(marking: &Marking) -> String {
         line("same", &cells)
     };
     let rows: String = numbers.iter().map(row).collect();
-    section("Tally", &table(&heads(marking, &["tally"], &[]), &rows))
+    let mut content = table(&heads(marking, &["tally"], &[]), &rows);
+    if let Some(words) = below_tally(marking) {
+        content.push_str(&paragraph("note", &words));
+    }
+    section("Tally", &content)
 }
 
 fn requests(marking: &Marking) -> String {

@@ -7,7 +7,7 @@ use crate::left::GROUPS;
 use crate::marking::Marking;
 use crate::row::Row;
 use labkit::names::level_name;
-use labkit::report::{request_words, Difference, Total, COUNTED};
+use labkit::report::{request_words, Difference, Totals, COUNTED};
 use labkit::session::Request;
 
 /// The names of the numbers of a tally.
@@ -96,7 +96,7 @@ fn run(marking: &Marking, i: usize) -> String {
     object(&members)
 }
 
-fn tally(tally: &Total) -> String {
+fn tally(tally: &Totals) -> String {
     let numbers = tally.0.map(|number| number.to_string());
     object(&TALLY.into_iter().zip(numbers).collect::<Vec<_>>())
 }

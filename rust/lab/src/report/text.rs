@@ -2,6 +2,7 @@
 
 use super::{explained, group, head, pairs, remarks, tally, verdict, NO_TALLY};
 use crate::left::GROUPS;
+use crate::linux;
 use crate::marking::Marking;
 use labkit::report::{request_words, Difference};
 
@@ -18,13 +19,16 @@ pub fn text(marking: &Marking) -> String {
         out.push_str(&columns(&requests(marking)));
         out.push_str(&line(marking.cut.as_deref()));
         out.push('\n');
-        out.push_str(&table(marking, "front page", &marking.front));
+        out.push_str(&table(marking, "front page", &marking.front, None));
         out.push_str(&columns(&left(marking)));
         out.push('\n');
     }
     match &tally(marking)[..] {
         [] => out.push_str(&line(Some(NO_TALLY))),
-        numbers => out.push_str(&table(marking, "tally", numbers)),
+        numbers => {
+            let below = linux::below_tally(marking);
+            out.push_str(&table(marking, "tally", numbers, below.as_deref()));
+        }
     }
     for (one, other, count) in pairs(marking) {
         let (one, other) = (marking.runs[one].name, marking.runs[other].name);
@@ -77,14 +81,14 @@ fn heading(marking: &Marking, first: &[&str]) -> Vec<String> {
         .collect()
 }
 
-/// Lines with a value of each run, below a heading and with a blank line behind them; nothing where there are none.
-fn table(marking: &Marking, name: &str, lines: &[Difference]) -> String {
+/// Lines with a value of each run, below a heading; what is said below them, and a blank line. Nothing where there are none.
+fn table(marking: &Marking, name: &str, lines: &[Difference], below: Option<&str>) -> String {
     if lines.is_empty() {
         return String::new();
     }
     let mut cells = vec![heading(marking, &[name])];
-    cells.extend(lines.iter().map(|line| valued(&[""], line)));
-    format!("{}\n", columns(&cells))
+    cells.extend(lines.iter().map(|found| valued(&[""], found)));
+    format!("{}{}\n", columns(&cells), line(below))
 }
 
 /// What differs at the end, in four groups.

@@ -1,12 +1,12 @@
 //! Tallies counted a second time, by the model, on generated exercises; and where they stand in each report.
 
 use super::*;
-use labkit::report::{Total, COUNTED};
+use labkit::report::{Totals, COUNTED};
 use model::layout::record::NO_CODE;
-use model::{Line, Totals};
+use model::Line;
 
 /// The tally of a run by the model.
-fn expected(exercise: &Exercise, text: &[u8]) -> Total {
+fn expected(exercise: &Exercise, text: &[u8]) -> Totals {
     let requests = exercise.form.split(&exercise.session.bytes).requests;
     let replies = modelled(exercise, text).replies;
     let line = |(request, (number, reply)): (&Request, &(u32, Vec<u8>))| Line {
@@ -17,17 +17,8 @@ fn expected(exercise: &Exercise, text: &[u8]) -> Total {
         },
     };
     let lines: Vec<Line> = requests.iter().zip(&replies).map(line).collect();
-    let counted = Totals::of_lines(&lines);
-    Total(
-        [
-            counted.requests,
-            counted.granted,
-            counted.denied,
-            counted.otherwise_refused,
-            counted.short,
-        ]
-        .map(|number| number as u64),
-    )
+    let counted = model::Totals::of_lines(&lines).in_order();
+    Totals(counted.map(|number| number as u64))
 }
 
 /// At all levels, with the first header alone and with both.
@@ -43,9 +34,9 @@ fn tallies_are_those_of_the_model() {
                 continue;
             }
             let texts = exercise.texts.iter();
-            let all: Vec<Total> = texts.map(|text| expected(&exercise, &text.bytes)).collect();
+            let all: Vec<Totals> = texts.map(|text| expected(&exercise, &text.bytes)).collect();
             assert_eq!(tallies, all, "seed {seed}");
-            for (i, Total(numbers)) in tallies.iter().enumerate() {
+            for (i, Totals(numbers)) in tallies.iter().enumerate() {
                 assert_eq!(numbers[2], marking.denied(i) as u64, "seed {seed}");
                 let counts = seen.iter_mut().zip(numbers);
                 counts.for_each(|(count, number)| *count += number);
@@ -55,39 +46,97 @@ fn tallies_are_those_of_the_model() {
     assert!(seen.iter().all(|count| *count > 100), "{seen:?}");
 }
 
-/// A session that is not run has no tally; one without requests has zeros, as the program prints them.
+/// Whether every form of report says that there is no tally.
+fn not_run(exercise: &Exercise) -> bool {
+    let marking = Marking::of(exercise, None).unwrap();
+    assert_eq!((marking.status(), marking.tallies()), (2, vec![]));
+    report::text(&marking).contains("\nno tally: the session was not run\nno mark: ")
+        && report::html(&marking)
+            .contains("<p class=\"note\">no tally: the session was not run</p>")
+        && report::json(&marking).contains("\"tally\": null")
+        && !report::csv(&marking).contains("\ntally,")
+}
+
+/// A session that is not run has no tally, whatever it holds; one without requests has zeros, as the program prints them.
 #[test]
 fn sessions_without_a_mark() {
     let (mut refused, mut empty) = (0, 0);
     for seed in 0..CASES {
         let mut exercise = exercise(seed, &[1, 3]);
-        exercise.texts.swap(0, 1);
-        let sent = !exercise
-            .form
-            .split(&exercise.session.bytes)
-            .requests
-            .is_empty();
-        let not_run = |exercise: &Exercise| {
-            let marking = Marking::of(exercise, None).unwrap();
-            assert_eq!(marking.status(), 2);
-            report::text(&marking).contains("\nno tally: the session was not run\nno mark: ")
-        };
-        if sent {
-            assert!(not_run(&exercise), "seed {seed}");
+        let sent = std::mem::take(&mut exercise.session.bytes);
+        for session in [sent, vec![], vec![5]] {
+            exercise.session.bytes = session;
+            exercise.texts.swap(0, 1);
+            assert!(not_run(&exercise), "seed {seed}, levels exchanged");
+            exercise.texts.swap(0, 1);
+            exercise.misnamed = Some("its name is that of the other form".to_string());
+            assert!(not_run(&exercise), "seed {seed}, misnamed");
+            exercise.misnamed = None;
         }
-        exercise.texts.swap(0, 1);
-        exercise.session.bytes.clear();
-        let marking = Marking::of(&exercise, None).unwrap();
-        if marking.runs[0].opening != 0 {
-            assert!(not_run(&exercise), "seed {seed}");
-            assert!(report::json(&marking).contains("\"tally\": null"));
-            refused += 1;
-            continue;
+        for session in [vec![], vec![5]] {
+            exercise.session.bytes = session;
+            let marking = Marking::of(&exercise, None).unwrap();
+            if marking.runs[0].opening != 0 {
+                assert!(not_run(&exercise), "seed {seed}, refused");
+                refused += 1;
+                continue;
+            }
+            assert_eq!(marking.tallies(), [Totals([0; 5]); 2], "seed {seed}");
+            empty += 1;
         }
-        assert_eq!(marking.tallies(), [Total([0; 5]); 2], "seed {seed}");
-        empty += 1;
     }
-    assert!(refused > 5 && empty > 50, "{refused} {empty}");
+    assert!(refused > 10 && empty > 100, "{refused} {empty}");
+}
+
+/// Below the tally of Linux requests stands what it does not show; with the first header alone nothing does.
+#[test]
+fn linux_requests_below_the_tally() {
+    let said = |levels: &[usize], lines: &str, words: &str| {
+        let mut exercise = exercise(0, levels);
+        exercise.adapter.bytes = labkit::adapter::parse("phy\nphy\n").unwrap();
+        exercise.disks = None;
+        exercise.form = Form::Both;
+        exercise.session.bytes = Form::Both.parse(lines).unwrap();
+        let marking = Marking::of(&exercise, None).unwrap();
+        let (text, page) = (report::text(&marking), report::html(&marking));
+        let below = match words {
+            "" => "\n".to_string(),
+            words => format!("{words}\n\n"),
+        };
+        let (_, tally) = text.split_once("\n  100s ").unwrap();
+        assert!(
+            tally.split_once('\n').unwrap().1.starts_with(&below),
+            "{text}"
+        );
+        let note = format!("</table>\n<p class=\"note\">{words}</p>\n");
+        assert_eq!(page.contains(&note), !words.is_empty(), "{page}");
+    };
+    let writes =
+        "linux set-phy-info phy=0\nlinux set-phy-info phy=1\nlinux get-link-errors reset=1\n";
+    said(
+        &[1, 3],
+        writes,
+        "Linux requests are never denied; 3 need more than the low level",
+    );
+    let one = "linux set-phy-info phy=0\nset-phy-info phy=0\n";
+    said(
+        &[1, 3],
+        one,
+        "Linux requests are never denied; 1 needs more than the low level",
+    );
+    let reads = "linux get-phy-info\n";
+    said(
+        &[1, 3],
+        reads,
+        "Linux requests are never denied; 0 need more than the low level",
+    );
+    let all = format!("{writes}{reads}get-phy-info\n");
+    let words =
+        "Linux requests are never denied; above the level: 4 None, 3 Restricted, 3 Limited, 0 Full";
+    said(&[0, 1, 2, 3], &all, words);
+    let stopped = "linux get-phy-info direction=2\n";
+    said(&[1, 3], stopped, "Linux requests are never denied");
+    said(&[1, 3], "get-phy-info\nset-phy-info\n", "");
 }
 
 /// Each run's numbers stand under its name, in every form.

@@ -1,7 +1,7 @@
 //! The return codes of two runs of one session side by side, as the program printed them. They are not the mark, which goes by
 //! whole replies and by what the runs left: that is `lab`'s.
 
-use super::total::{Total, COUNTED};
+use super::totals::{Totals, COUNTED};
 use super::transcript::{Answer, Transcript};
 use super::words::request_words;
 use crate::names;
@@ -12,7 +12,7 @@ use crate::session::split;
 pub struct Comparison {
     rows: Vec<Row>,
     /// Of the low run and of the high one; none of a refused opening.
-    totals: [Option<Total>; 2],
+    totals: [Option<Totals>; 2],
     openings: Vec<String>,
     cut: bool,
 }
@@ -43,7 +43,7 @@ pub fn compare(session: &[u8], low: &Transcript, high: &Transcript) -> Result<Co
     }
     Ok(Comparison {
         rows,
-        totals: [low_answers, high_answers].map(|answers| answers.map(Total::of)),
+        totals: [low_answers, high_answers].map(|answers| answers.map(Totals::of)),
         openings: [refused("low", low), refused("high", high)].concat(),
         cut: !cut.tail.is_empty(),
     })
@@ -118,16 +118,21 @@ impl Comparison {
         )
     }
 
-    /// The totals of both runs, a line for each number.
-    fn tally(&self) -> impl Iterator<Item = [String; 5]> + '_ {
-        COUNTED.iter().enumerate().map(|(i, name)| {
-            let number = |total: Option<Total>| match total {
-                Some(total) => total.0[i].to_string(),
+    /// The totals of both runs, a line for each number below a blank line and a heading.
+    fn tally(&self) -> Vec<[String; 5]> {
+        let mut lines = vec![
+            [""; 5].map(String::from),
+            ["", "tally", "low", "high", ""].map(String::from),
+        ];
+        lines.extend(COUNTED.iter().enumerate().map(|(i, name)| {
+            let number = |totals: Option<Totals>| match totals {
+                Some(totals) => totals.0[i].to_string(),
                 None => NOT_OPENED.to_string(),
             };
             let [low, high] = self.totals.map(number);
             [String::new(), name.to_string(), low, high, String::new()]
-        })
+        }));
+        lines
     }
 
     /// The table, the totals below it, the openings that were refused, and how many differ in the last line.
@@ -185,14 +190,16 @@ mod tests {
         assert_eq!((compared.differing(), compared.denied_low()), (1, 1));
         let table = compared.table();
         let lines: Vec<&str> = table.lines().collect();
-        assert_eq!(lines.len(), 11);
+        assert_eq!(lines.len(), 13);
         assert!(lines[2].contains("4 denied, write attempted"));
         assert!(lines[2].contains("2002 phy does not exist"));
         assert!(lines[2].ends_with("differs") && !lines[1].ends_with("differs"));
         assert_eq!(lines[4].trim(), "a last request, cut");
         let numbers = |line: &&str| line.split_whitespace().collect::<Vec<_>>().join(" ");
-        let tally: Vec<String> = lines[5..10].iter().map(numbers).collect();
+        let tally: Vec<String> = lines[5..12].iter().map(numbers).collect();
         let expected = [
+            "",
+            "tally low high",
             "requests 3 3",
             "granted 1 1",
             "denied 1 0",
@@ -200,7 +207,7 @@ mod tests {
             "100s 1 1",
         ];
         assert_eq!(tally, expected);
-        assert_eq!(lines[10], "codes: 1 of 3 differ, 1 denied low");
+        assert_eq!(lines[12], "codes: 1 of 3 differ, 1 denied low");
     }
 
     #[test]

@@ -4,7 +4,7 @@ mod compare;
 mod differences;
 mod front;
 mod reply;
-mod total;
+mod totals;
 mod transcript;
 mod words;
 
@@ -12,6 +12,6 @@ pub use compare::{compare, Comparison};
 pub use differences::{bytes_differ, differences, values_differ, Difference};
 pub use front::{front, FRONT};
 pub use reply::reply;
-pub use total::{Total, COUNTED};
+pub use totals::{Totals, COUNTED};
 pub use transcript::{Answer, Transcript};
 pub use words::request_words;

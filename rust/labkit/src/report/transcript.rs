@@ -1,7 +1,7 @@
 //! What the simulator prints: `open N`, or `request call code` and a line for each request, `cut` behind a request that is cut short or
 //! oversized, and the total of these lines.
 
-use super::total::Total;
+use super::totals::Totals;
 use crate::names;
 use crate::Fault;
 
@@ -80,11 +80,11 @@ fn run(lines: &[&str]) -> Result<Transcript, Fault> {
     if !total.starts_with("total ") {
         return Err(Fault::new(
             last,
-            "the last line is no total, with which a run ends since W-206",
+            "the last line is no total, with which a run ends since W-206: run the program again",
         ));
     }
     let answers = answers(requests)?;
-    let counted = Total::of(&answers).to_string();
+    let counted = Totals::of(&answers).to_string();
     match total == counted {
         true => Ok(Transcript::Run { answers, cut }),
         false => Err(Fault::new(
@@ -167,7 +167,8 @@ mod tests {
             let text = format!("request call code\n1 0 0\n2 0 2000\n{end}");
             Transcript::parse(&text).unwrap_err().to_string()
         };
-        let no_total = "the last line is no total, with which a run ends since W-206";
+        let no_total =
+            "the last line is no total, with which a run ends since W-206: run the program again";
         assert_eq!(fault(""), format!("line 3: {no_total}"));
         assert_eq!(fault("cut\n"), format!("line 4: {no_total}"));
         for behind in ["cut", "3 0 0", "total"] {

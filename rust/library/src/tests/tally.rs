@@ -4,14 +4,7 @@ use super::*;
 
 /// The totals in their order.
 fn tallied(bytes: &[u8]) -> [u64; 5] {
-    let totals = Totals::of_record(bytes);
-    [
-        totals.requests,
-        totals.granted,
-        totals.denied,
-        totals.otherwise_refused,
-        totals.short,
-    ]
+    Totals::of_record(bytes).in_order()
 }
 
 /// The kind of a line: its place behind the requests.

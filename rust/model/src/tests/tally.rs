@@ -5,24 +5,13 @@ mod record;
 mod totals;
 
 use super::arbitrary::Numbers;
-use crate::{Line, Totals};
+use crate::Line;
 
 /// FFFFFFFFh, in the place of a return code that was not written.
 const NONE: u32 = 0xFFFF_FFFF;
 
 fn line(number: u32, code: u32) -> Line {
     Line { number, code }
-}
-
-/// The totals in the order of the program's last line.
-fn in_order(totals: Totals) -> [usize; 5] {
-    [
-        totals.requests,
-        totals.granted,
-        totals.denied,
-        totals.otherwise_refused,
-        totals.short,
-    ]
 }
 
 /// Up to 20 lines, most of them such as a run leaves.

@@ -1,10 +1,10 @@
 //! The kind of a line, by the call's number and the return code.
 
 use super::{line, NONE};
-use crate::Kind;
-use crate::Kind::{Denied, Granted, OtherwiseRefused, Short};
+use crate::LineKind;
+use crate::LineKind::{Denied, Granted, OtherwiseRefused, Short};
 
-fn kind(number: u32, code: u32) -> Kind {
+fn kind(number: u32, code: u32) -> LineKind {
     line(number, code).kind()
 }
 

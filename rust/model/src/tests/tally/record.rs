@@ -1,12 +1,12 @@
 //! The totals of a record: lines of 8 bytes, and a rest that counts nowhere.
 
-use super::{bytes, in_order, line, lines, NONE};
+use super::{bytes, line, lines, NONE};
 use crate::layout::record::NO_CODE;
 use crate::tests::arbitrary::Numbers;
 use crate::Totals;
 
 fn totals(record: &[u8]) -> [usize; 5] {
-    in_order(Totals::of_record(record))
+    Totals::of_record(record).in_order()
 }
 
 /// The call's number is in bytes 0 to 3, the return code in bytes 4 to 7, little-endian.

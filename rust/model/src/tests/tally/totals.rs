@@ -1,11 +1,11 @@
 //! The totals of a list of lines, and the program's last line.
 
-use super::{in_order, line, lines, NONE};
+use super::{line, lines, NONE};
 use crate::tests::arbitrary::Numbers;
-use crate::{Kind, Line, Totals};
+use crate::{Line, LineKind, Totals};
 
 fn totals(lines: &[Line]) -> [usize; 5] {
-    in_order(Totals::of_lines(lines))
+    Totals::of_lines(lines).in_order()
 }
 
 #[test]
@@ -64,10 +64,10 @@ fn any_lines() {
         assert_eq!(all[0], lines.len());
         assert_eq!(all[1..].iter().sum::<usize>(), all[0]);
         for (total, kind) in all[1..].iter().zip([
-            Kind::Granted,
-            Kind::Denied,
-            Kind::OtherwiseRefused,
-            Kind::Short,
+            LineKind::Granted,
+            LineKind::Denied,
+            LineKind::OtherwiseRefused,
+            LineKind::Short,
         ]) {
             let of_kind = lines.iter().filter(|line| line.kind() == kind);
             assert_eq!(of_kind.count(), *total);

@@ -8,23 +8,23 @@ pub const COUNTED: [&str; 5] = ["requests", "granted", "denied", "otherwise refu
 
 /// The five numbers.
 #[derive(Debug, Clone, Copy, PartialEq, Eq)]
-pub struct Total(pub [u64; COUNTED.len()]);
+pub struct Totals(pub [u64; COUNTED.len()]);
 
-impl Total {
-    /// That of the lines that the program printed.
-    pub fn of(answers: &[Answer]) -> Total {
+impl Totals {
+    /// Those of the lines that the program printed.
+    pub fn of(answers: &[Answer]) -> Totals {
         let count = |kind: fn(&&Answer) -> bool| answers.iter().filter(kind).count() as u64;
         let requests = answers.len() as u64;
         let granted = count(|answer| answer.is_granted());
         let denied = count(|answer| answer.is_denied());
         let short = count(|answer| answer.is_short());
         let otherwise = requests - granted - denied - short;
-        Total([requests, granted, denied, otherwise, short])
+        Totals([requests, granted, denied, otherwise, short])
     }
 }
 
 /// The program's last line.
-impl fmt::Display for Total {
+impl fmt::Display for Totals {
     fn fmt(&self, f: &mut fmt::Formatter) -> fmt::Result {
         let numbers = self.0.map(|number| number.to_string());
         write!(f, "total {}", numbers.join(" "))
@@ -36,7 +36,7 @@ mod tests {
     use super::*;
 
     fn line(answers: &[Answer]) -> String {
-        Total::of(answers).to_string()
+        Totals::of(answers).to_string()
     }
 
     #[test]
