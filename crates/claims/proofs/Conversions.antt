@@ -18,9 +18,9 @@ use Rattle.layout.specs.Layout.{phyCount, rowCount, rowPlace}
 use Rattle.file.specs.File.{fileRow, adapterOf}
 use Rattle.file.proofs.Laws.{row-within}
 use Rattle.reports.specs.Report.{Report, filled, report}
-use Rattle.reports.specs.Conversion.{converted}
-use Rattle.reports.specs.ScsiAddress.{scsiAddress}
-use Rattle.reports.specs.DeviceAddress.{deviceAddress}
+use Rattle.lookups.specs.Conversion.{converted}
+use Rattle.lookups.specs.ScsiAddress.{scsiAddress}
+use Rattle.lookups.specs.DeviceAddress.{deviceAddress}
 use Rattle.state.specs.Open.{openedOf}
 use Rattle.state.proofs.AcceptedLaws.{Open, open-accepted, open-holds}
 use Rattle.header.specs.Table.{structureSize}

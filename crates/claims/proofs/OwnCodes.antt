@@ -18,10 +18,10 @@ use Rattle.reports.specs.DriverInfo.{driverInfo}
 use Rattle.reports.specs.Controller.{controllerConfig, controllerStatus}
 use Rattle.reports.specs.ConnectorInfo.{connectorInfo}
 use Rattle.reports.specs.PhyInfo.{phyInfo}
-use Rattle.reports.specs.Signature.{signatureOf, sataSignature}
-use Rattle.reports.specs.Conversion.{converted}
-use Rattle.reports.specs.ScsiAddress.{scsiAddress}
-use Rattle.reports.specs.DeviceAddress.{deviceAddress}
+use Rattle.lookups.specs.Signature.{signatureOf, sataSignature}
+use Rattle.lookups.specs.Conversion.{converted}
+use Rattle.lookups.specs.ScsiAddress.{scsiAddress}
+use Rattle.lookups.specs.DeviceAddress.{deviceAddress}
 use Rattle.service.specs.Serve.{Store, Served, reportOf, served}
 use Rattle.claims.proofs.Ways.{Own, served-by}
 use Rattle.claims.proofs.PhyEffects.{set-by, errors-by}

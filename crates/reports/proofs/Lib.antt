@@ -1,4 +1,2 @@
--- The laws that the proofs of this crate and of the crates above cite.
-pub mod ReportLaws
-pub mod ConversionLaws
+-- The laws that the proofs of this crate cite.
 pub mod ConnectorLaws

@@ -3,7 +3,3 @@ pub mod DriverInfo
 pub mod Controller
 pub mod ConnectorInfo
 pub mod PhyInfo
-pub mod Signature
-pub mod Conversion
-pub mod ScsiAddress
-pub mod DeviceAddress

@@ -12,9 +12,9 @@ use Rattle.reports.specs.DriverInfo.{driverInfo}
 use Rattle.reports.specs.Controller.{controllerConfig, controllerStatus}
 use Rattle.reports.specs.ConnectorInfo.{connectorInfo}
 use Rattle.reports.specs.PhyInfo.{phyInfo}
-use Rattle.reports.specs.Signature.{sataSignature}
-use Rattle.reports.specs.ScsiAddress.{scsiAddress}
-use Rattle.reports.specs.DeviceAddress.{deviceAddress}
+use Rattle.lookups.specs.Signature.{sataSignature}
+use Rattle.lookups.specs.ScsiAddress.{scsiAddress}
+use Rattle.lookups.specs.DeviceAddress.{deviceAddress}
 use Rattle.set_phy_info.specs.SetPhyInfo.{setInfo}
 use Rattle.link_errors.specs.LinkErrors.{linkErrors}
 use Rattle.passthrough.specs.Passthrough.{Passed, passthrough}

@@ -27,13 +27,13 @@ fn report(tables: &[u8], control: u32, body: &mut [u8]) -> u32
         return reports::get_phy_info(tables, body);
     }
     if control == codes::GET_SATA_SIGNATURE {
-        return reports::get_signature(tables, body);
+        return lookups::get_signature(tables, body);
     }
     if control == codes::GET_SCSI_ADDRESS {
-        return reports::get_scsi_address(tables, body);
+        return lookups::get_scsi_address(tables, body);
     }
     if control == codes::GET_DEVICE_ADDRESS {
-        return reports::get_device_address(tables, body);
+        return lookups::get_device_address(tables, body);
     }
     if control == codes::GET_CONNECTOR_INFO {
         return reports::get_connector_info(tables, body);

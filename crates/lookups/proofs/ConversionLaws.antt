@@ -8,8 +8,8 @@ use borrow.Author.Tests.{lt-ltb, le-ltb}
 use Rattle.laws.specs.Splice.{part, splice}
 use Rattle.rows.specs.Row.{Row, rowsSize, rowsOf, rowAt}
 use Rattle.tables.specs.Tables.{rowsStart, tablesOf}
 use Rattle.reports.specs.Report.{report, filled}
-use Rattle.reports.specs.Conversion.{converted}
+use Rattle.lookups.specs.Conversion.{converted}
 
 -- a is the row count that was read, and i what the lookup answered, over the rows as they are lent
 module _ (index : List Row → ℕ → List ℕ → ℕ) (bytes : Row → List ℕ) (n none a i : ℕ) (t body : List ℕ) (p : a ≡ tablesOf t .«row_count»)

@@ -7,8 +7,8 @@ ghost use lib.ListN.{length};
 ghost use Rattle.laws.specs.Splice.{splice};
 ghost use Rattle.adapter.specs.Adapter.{FewPhys, phyIn};
 ghost use Rattle.tables.specs.Tables.{tablesSize, tablesOf};
 ghost use Rattle.reports.specs.Report.{report, filled};
-ghost use Rattle.reports.specs.Signature.{signatureOf, sataSignature};
+ghost use Rattle.lookups.specs.Signature.{signatureOf, sataSignature};
 
 fn put_signature(phy: Phy, body: &mut [u8]) -> u32
     requires { ⌜ 24 ≤ length (now body) ⌝ }

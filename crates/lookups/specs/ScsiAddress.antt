@@ -3,8 +3,8 @@ use mathlib.Core.List.{List}
 use Prim.Native.Nat.{ℕ}
 use Rattle.codes.specs.Codes.{noScsiAddress}
 use Rattle.rows.specs.Row.{Row, sasIndex}
 use Rattle.reports.specs.Report.{Report}
-use Rattle.reports.specs.Conversion.{converted}
+use Rattle.lookups.specs.Conversion.{converted}
 
 -- "27: the row with that SAS address and LUN gives the four OS bytes"
 unfoldable pub scsiAddress : List Row → ℕ → List ℕ → Report

@@ -1,10 +1,10 @@
--- `reports::signature::get_signature` meets its contract. Assumes nothing.
+-- `lookups::signature::get_signature` meets its contract. Assumes nothing.
 use Rattle.tables.proofs.Laws.{exists-below}
-use Rattle.reports.specs.Signature.{sataSignature}
+use Rattle.lookups.specs.Signature.{sataSignature}
 use borrow.Author.Needs.{needs}
 use Rattle.laws.specs.Choice.{picks}
-use Rattle.reports.proofs.signature.get_signature.Statement.{statement}
-use Rattle.reports.proofs.signature.get_signature.Tie as tie
+use Rattle.lookups.proofs.signature.get_signature.Statement.{statement}
+use Rattle.lookups.proofs.signature.get_signature.Tie as tie
 
 pub get-signature-spec : {M : Type 1} → statement M
 unfolding sataSignature

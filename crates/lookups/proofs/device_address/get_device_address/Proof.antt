@@ -1,12 +1,12 @@
--- `reports::scsi_address::get_scsi_address` meets its contract. Assumes nothing.
-use Rattle.reports.specs.ScsiAddress.{scsiAddress}
-use Rattle.reports.proofs.ConversionLaws.{conversion}
-use Rattle.reports.proofs.scsi_address.get_scsi_address.Statement.{statement}
-use Rattle.reports.proofs.scsi_address.get_scsi_address.Tie as tie
+-- `lookups::device_address::get_device_address` meets its contract. Assumes nothing.
+use Rattle.lookups.specs.DeviceAddress.{deviceAddress}
+use Rattle.lookups.proofs.ConversionLaws.{conversion}
+use Rattle.lookups.proofs.device_address.get_device_address.Statement.{statement}
+use Rattle.lookups.proofs.device_address.get_device_address.Tie as tie
 
-pub get-scsi-address-spec : {M : Type 1} → statement M
-unfolding scsiAddress
-get-scsi-address-spec =
+pub get-device-address-spec : {M : Type 1} → statement M
+unfolding deviceAddress
+get-device-address-spec =
     tie.close
     (tie.spec (λ c κs. search conversion) (λ c. search conversion) (λ c. search conversion) (λ c. search conversion)
     (λ c. search conversion) (λ c. search conversion) (λ c. search conversion) (λ c. search conversion)

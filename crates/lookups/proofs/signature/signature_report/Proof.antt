@@ -1,9 +1,9 @@
--- `reports::signature::signature_report` meets its contract. Assumes nothing.
+-- `lookups::signature::signature_report` meets its contract. Assumes nothing.
 use borrow.Author.Needs.{needs}
 use Rattle.laws.specs.Choice.{picks}
-use Rattle.reports.specs.Signature.{signatureOf}
-use Rattle.reports.proofs.signature.signature_report.Statement.{statement}
-use Rattle.reports.proofs.signature.signature_report.Tie as tie
+use Rattle.lookups.specs.Signature.{signatureOf}
+use Rattle.lookups.proofs.signature.signature_report.Statement.{statement}
+use Rattle.lookups.proofs.signature.signature_report.Tie as tie
 
 pub signature-report-spec : {M : Type 1} → statement M
 unfolding signatureOf

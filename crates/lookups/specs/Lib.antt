@@ -1,0 +1,4 @@
+pub mod Signature
+pub mod Conversion
+pub mod ScsiAddress
+pub mod DeviceAddress
