@@ -15,8 +15,8 @@ use Rattle.rows.proofs.ReadLaws.{length-sas, length-os}
 use Rattle.rows.specs.Row.{Row, noRow, zeroRow, rowAt, rowsHold, sasIndex, osIndex}
 use Rattle.rows.proofs.ConversionsLaws.{sas-found, os-found, sas-own, os-own}
 use Rattle.layout.specs.Layout.{phyCount, rowCount, rowPlace}
-use Rattle.file.specs.File.{fileRow, adapterOf}
-use Rattle.file.proofs.Laws.{row-within}
+use Rattle.contents.specs.Contents.{fileRow, adapterOf}
+use Rattle.contents.proofs.Laws.{row-within}
 use Rattle.reports.specs.Report.{Report, filled, report}
 use Rattle.lookups.specs.Conversion.{converted}
 use Rattle.lookups.specs.ScsiAddress.{scsiAddress}

@@ -23,7 +23,8 @@ use Rattle.level.proofs.BoundLaws.{level-bound}
 use Rattle.layout.specs.Layout.{phyCount, rowCount, phyBlock}
 use Rattle.block.specs.Check.{blockAt}
 use Rattle.block.proofs.CheckLaws.{length-block}
-use Rattle.file.specs.File.{FileRead, filePhy, adapterOf, fileRead}
+use Rattle.contents.specs.Contents.{filePhy, adapterOf}
+use Rattle.file.specs.File.{FileRead, fileRead}
 use Rattle.file.proofs.AcceptedLaws.{phy-read, length-phys}
 use Rattle.adapter.specs.Adapter.{Adapter, phyIn, zeroAdapter, countsHold}
 use Rattle.adapter.proofs.StoreLaws.{phys-bound}

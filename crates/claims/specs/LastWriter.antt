@@ -10,7 +10,7 @@ use Rattle.laws.specs.Splice.{part}
 use Rattle.codes.specs.Codes.{success, setPhyInfo, stpPassthru}
 use Rattle.phy.specs.Entity.{portOf, programmedMinimum, programmedMaximum}
 use Rattle.layout.specs.Layout.{phyCount}
-use Rattle.file.specs.File.{filePhy}
+use Rattle.contents.specs.Contents.{filePhy}
 use Rattle.disk.specs.Disk.{lba}
 use Rattle.disk.specs.Sector.{sector, replyStatus, covers}
 use Rattle.select.specs.declared.Selection.{Selection}

@@ -14,7 +14,7 @@ use Rattle.phy.specs.Change.{released}
 use Rattle.fields.specs.Rules.{isRate}
 use Rattle.link.specs.Rule.{ruleOf}
 use Rattle.layout.specs.Layout.{phyCount}
-use Rattle.file.specs.File.{filePhy}
+use Rattle.contents.specs.Contents.{filePhy}
 use Rattle.adapter.specs.Adapter.{phyIn}
 use Rattle.select.specs.Select.{selectIn}
 use Rattle.stp.specs.Body.{phyAsked, portAsked}

@@ -22,7 +22,8 @@ use Rattle.connectors.proofs.Laws.{past-by-zero}
 use Rattle.layout.specs.Layout.{phyCount, rowCount, blocks, fileLength}
 use Rattle.layout.specs.Unnamed.{unnamedZero}
 use Rattle.adapter.specs.Adapter.{phyIn, countsHold, fieldsAll, zeroPast}
-use Rattle.file.specs.File.{FileRead, filePhy, fileRow, fileConnector, adapterOf, fileRead}
+use Rattle.contents.specs.Contents.{filePhy, fileRow, fileConnector, adapterOf}
+use Rattle.file.specs.File.{FileRead, fileRead}
 use Rattle.file.specs.Steps.{fieldsRead, blocksRead, lengthRead, countsRead, firstRead}
 use Rattle.file.proofs.StepsLaws.{first-call, first-adapter}
 

@@ -1,23 +1,14 @@
 -- Laws for the proofs of this crate. Assumes nothing.
 use mathlib.Core.Path.{_≡_, _∙_, ap}
 use mathlib.Core.List.{List}
-use Prim.Native.Nat.{ℕ, _+_, _<_, _≤_}
-use native.Mathlib.Omega.{arith}
+use Prim.Native.Nat.{ℕ, _≤_}
 use lib.ListN.{length}
 use Rattle.laws.specs.Clear.{zeros, cleared-all}
 use Rattle.laws.specs.Splice.{splice}
-use Rattle.layout.specs.Layout.{rowPlace, connectorPlace, fileLength}
 use Rattle.tables.specs.Tables.{tablesSize, tablesOf}
 use Rattle.tables.proofs.ZeroLaws.{zero-tables}
-use Rattle.file.specs.File.{adapterOf, reads, refusedFile}
-
--- row i of `a` rows stands within the file
-pub row-within : (l : List ℕ) (p a i : ℕ) → i < a → length l ≡ fileLength p a → rowPlace p i + 20 ≤ length l
-row-within l p a i h e = omega arith
-
--- and so does phy i's connector
-pub connector-within : (l : List ℕ) (p a i : ℕ) → i < p → length l ≡ fileLength p a → connectorPlace p a i + 36 ≤ length l
-connector-within l p a i h e = omega arith
+use Rattle.contents.specs.Contents.{adapterOf}
+use Rattle.file.specs.File.{reads, refusedFile}
 
 -- the phy count of what was read
 pub count-read : (file t : List ℕ) (p a : ℕ) → p ≤ 32 → tablesOf t ≡ adapterOf file p a → tablesOf t .«phy_count» ≤ 32

@@ -1,5 +1,4 @@
 -- The laws that the proofs of this crate and of the crates above cite.
 pub mod StepsLaws
-pub mod ParseLaws
 pub mod Laws
 pub mod AcceptedLaws

@@ -13,7 +13,8 @@ use Rattle.block.specs.Check.{blockAt, sound, soundTo}
 use Rattle.layout.specs.Layout.{phyCount, rowCount, blocks, fileLength}
 use Rattle.layout.specs.Unnamed.{unnamedZero}
 use Rattle.adapter.specs.Adapter.{Adapter, countsHold, fieldsAll}
-use Rattle.file.specs.File.{FileRead, adapterOf, reads, refusedFile, readBy, fileRead}
+use Rattle.contents.specs.Contents.{adapterOf}
+use Rattle.file.specs.File.{FileRead, reads, refusedFile, readBy, fileRead}
 use Rattle.file.specs.Steps.{blocksRead, countsRead, fieldsRead, firstRead, lengthRead}
 
 -- one check before others

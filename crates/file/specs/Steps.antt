@@ -9,7 +9,8 @@ use Rattle.block.specs.Check.{blockAt, sound, soundTo}
 use Rattle.layout.specs.Layout.{phyCount, rowCount, blocks, fileLength}
 use Rattle.layout.specs.Unnamed.{unnamedZero}
 use Rattle.adapter.specs.Adapter.{Adapter, countsHold, fieldsAll}
-use Rattle.file.specs.File.{FileRead, adapterOf, reads, refusedFile}
+use Rattle.contents.specs.Contents.{adapterOf}
+use Rattle.file.specs.File.{FileRead, reads, refusedFile}
 
 -- what is left to do from one check on
 abbrev pub settledAs : Bool → Adapter → FileRead

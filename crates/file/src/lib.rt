@@ -1,9 +1,5 @@
-// The opening's file part (document 01, "Adapter file"): what a file holds, copied into the tables that the caller lends, and its checks
-// in order up to the fields.
-mod connectors_of;
-mod parse;
-mod phys;
+// The opening's file part (document 01, "Adapter file"): the checks of a file in order up to the fields, and what it holds left in the tables
+// that the caller lends.
 mod read;
-mod rows_of;
 
 pub use read::read_file;

@@ -1,5 +1,4 @@
 // The opening's file part, its checks in document 01's order up to the fields. A refused opening leaves the tables zero.
-use crate::parse::parse;
 ghost use mathlib.Core.Path.{_≡_};
 ghost use mathlib.Core.Bool.{_&&_};
 ghost use Prim.Native.Nat.{_≤_};
@@ -47,7 +46,7 @@ fn read_fields(tables: &mut [u8], file: &[u8], p: u8, a: u8) -> u32
     requires { ⌜ length (now tables) ≡ tablesSize ⌝ }
     ensures { λ r. ⌜ reads r (tablesOf (now (tables .exit))) ≡ fieldsRead (now (file .entry)) p a ⌝ }
 {
-    parse(tables, file, p, a);
+    contents::parse(tables, file, p, a);
     let ok = fields_right(tables, file, p as usize, a as usize);
     settle(tables, ok)
 }

@@ -14,7 +14,8 @@ use Rattle.rows.specs.Row.{rowsHold}
 use Rattle.adapter.specs.Adapter.{Adapter, countsHold, fieldsAll, zeroPast, mediumSize}
 use Rattle.link.specs.All.{negotiatedAll}
 use Rattle.layout.specs.Layout.{phyCount, rowCount}
-use Rattle.file.specs.File.{fileRead, adapterOf}
+use Rattle.contents.specs.Contents.{adapterOf}
+use Rattle.file.specs.File.{fileRead}
 use Rattle.file.proofs.AcceptedLaws.{Accepted, accepted, zero-read}
 use Rattle.state.specs.State.{tablesHold, adapterHolds, stateHolds}
 use Rattle.state.specs.Open.{Opened, refusedOpening, opened, tablesNumber, openNumber, openedFile, openedText, openedOf}

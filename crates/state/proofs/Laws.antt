@@ -20,7 +20,8 @@ use Rattle.adapter.proofs.StoreLaws.{phys-bound, rows-bound}
 use Rattle.tables.specs.Tables.{tablesSize, rowsStart, tablesOf}
 use Rattle.tables.proofs.Laws.{rows-in}
 use Rattle.tables.proofs.ZeroLaws.{zero-tables}
-use Rattle.file.specs.File.{FileRead, reads, fileRead, adapterOf}
+use Rattle.contents.specs.Contents.{adapterOf}
+use Rattle.file.specs.File.{FileRead, reads, fileRead}
 use Rattle.file.proofs.AcceptedLaws.{accepted}
 use Rattle.state.specs.State.{State, stateWith, stateSize, stateOf, zeroState, tablesHold, adapterHolds, stateHolds}
 use Rattle.state.specs.Open.{Opened, opens, refusedOpening, opened, tablesNumber, openNumber, settled, openedFile, openedText, openedOf, OpenCall}
