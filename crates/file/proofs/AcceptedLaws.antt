@@ -20,7 +20,7 @@ use Rattle.rows.proofs.RowLaws.{zero-by}
 use Rattle.connectors.specs.Connector.{zeroConnector}
 use Rattle.connectors.proofs.Laws.{past-by-zero}
 use Rattle.layout.specs.Layout.{phyCount, rowCount, blocks, fileLength}
-use Rattle.layout.specs.Unnamed.{unnamedZero}
+use Rattle.unnamed.specs.Unnamed.{unnamedZero}
 use Rattle.adapter.specs.Adapter.{phyIn, countsHold, fieldsAll, zeroPast}
 use Rattle.contents.specs.Contents.{filePhy, fileRow, fileConnector, adapterOf}
 use Rattle.file.specs.File.{FileRead, fileRead}

@@ -11,7 +11,7 @@ use Rattle.laws.specs.Checks.{Check, check, firstFailing}
 use Rattle.codes.specs.Codes.{badFileLength, blockCheck, badField}
 use Rattle.block.specs.Check.{blockAt, sound, soundTo}
 use Rattle.layout.specs.Layout.{phyCount, rowCount, blocks, fileLength}
-use Rattle.layout.specs.Unnamed.{unnamedZero}
+use Rattle.unnamed.specs.Unnamed.{unnamedZero}
 use Rattle.adapter.specs.Adapter.{Adapter, countsHold, fieldsAll}
 use Rattle.contents.specs.Contents.{adapterOf}
 use Rattle.file.specs.File.{FileRead, reads, refusedFile, readBy, fileRead}

@@ -5,7 +5,7 @@ ghost use Prim.Native.Nat.{_≤_};
 ghost use lib.ListN.{length};
 ghost use Rattle.block.specs.Check.{soundTo};
 ghost use Rattle.layout.specs.Layout.{blocks, fileLength};
-ghost use Rattle.layout.specs.Unnamed.{unnamedZero};
+ghost use Rattle.unnamed.specs.Unnamed.{unnamedZero};
 ghost use Rattle.adapter.specs.Adapter.{FewPhys, fieldsAll};
 ghost use Rattle.tables.specs.Tables.{tablesSize, tablesOf};
 ghost use Rattle.file.specs.File.{reads, refusedFile, fileRead};
@@ -37,7 +37,7 @@ fn fields_right(tables: &[u8], file: &[u8], p: usize, a: usize) -> bool
     requires { ⌜ FewPhys (tablesOf (now tables)) ⌝ }
     ensures { λ r. ⌜ r ≡ unnamedZero (now (file .entry)) p a && fieldsAll (tablesOf (now (tables .entry))) ⌝ }
 {
-    layout::unnamed_zero(file, p, a) & rules::all_fields_hold(tables)
+    unnamed::unnamed_zero(file, p, a) & rules::all_fields_hold(tables)
 }
 
 // A sound file, of the length that its counts give.
