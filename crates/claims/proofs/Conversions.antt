@@ -23,7 +23,7 @@ use Rattle.lookups.specs.ScsiAddress.{scsiAddress}
 use Rattle.lookups.specs.DeviceAddress.{deviceAddress}
 use Rattle.state.specs.Open.{openedOf}
 use Rattle.state.proofs.AcceptedLaws.{Open, open-accepted, open-holds}
-use Rattle.header.specs.Table.{structureSize}
+use Rattle.control_codes.specs.Table.{structureSize}
 use Rattle.service.specs.Serve.{Store, reported, changed, reportOf, served}
 use Rattle.header.proofs.SentLaws.{checks-room}
 use Rattle.dispatch.proofs.Laws.{number-state}

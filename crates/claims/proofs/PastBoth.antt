@@ -15,7 +15,7 @@ use Rattle.wire.specs.Same.{sameBytes}
 use Rattle.wire.proofs.NumberLaws.{number-bytes}
 use Rattle.wire.proofs.SameLaws.{same-refl}
 use Rattle.header.specs.Form.{srb}
-use Rattle.header.specs.Table.{known, structureSize, dataSize, signedAll, csmiAll, csmiSas}
+use Rattle.control_codes.specs.Table.{known, structureSize, dataSize, signedAll, csmiAll, csmiSas}
 use Rattle.header.specs.Srb.{headerLength, signature, controlCode, lengthField, srbBody, signatureHolds, lengthHolds, codeChecked, srbCode}
 use Rattle.header.specs.Linux.{linuxLength, direction, linuxBody, directionHolds, linuxLengthHolds, linuxCode}
 use Rattle.claims.specs.Sameness.{srbHeader, linuxHeader, TwinsPast, PastBoth}

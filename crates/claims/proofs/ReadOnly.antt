@@ -12,9 +12,9 @@ use Rattle.adapter.specs.Adapter.{Adapter}
 use Rattle.state.specs.State.{stateWith}
 use Rattle.header.specs.declared.Kind.{Kind}
 use Rattle.header.specs.declared.Kind.the-variants.{Srb, Linux}
-use Rattle.header.specs.Table.{need}
+use Rattle.control_codes.specs.Table.{need}
 use Rattle.header.specs.Sent.{Request, levelBy, controlOf, bodyOf}
-use Rattle.header.proofs.TableLaws.{NoWrite, below-full}
+use Rattle.control_codes.proofs.TableLaws.{NoWrite, below-full}
 use Rattle.header.proofs.SentLaws.{checks-need}
 use Rattle.service.specs.Serve.{Store, withMedium, Served, served}
 use Rattle.service.proofs.Laws.{passthrough-lent}

@@ -15,7 +15,7 @@ use Rattle.phy.specs.Change.{cleared}
 use Rattle.adapter.specs.Adapter.{Adapter, phyIn, withPhy}
 use Rattle.adapter.specs.Changed.{Changed, leaves}
 use Rattle.link_errors.specs.LinkErrors.{countersShown, linkErrors}
-use Rattle.header.specs.Table.{servedCodes, known}
+use Rattle.control_codes.specs.Table.{servedCodes, known}
 use Rattle.header.specs.Sent.{Request, formOf, controlOf, bodyOf}
 use Rattle.service.specs.Serve.{Store, Served, changed, served}
 use Rattle.dispatch.specs.Request.{Point, Outcome}

@@ -15,7 +15,7 @@ use Rattle.set_phy_info.specs.SetPhyInfo.{setInfo}
 use Rattle.link_errors.specs.LinkErrors.{linkErrors}
 use Rattle.passthrough.specs.Passthrough.{passthrough}
 use Rattle.state.specs.State.{State, adapterHolds, stateHolds}
-use Rattle.header.specs.Table.{structureSize, dataSize}
+use Rattle.control_codes.specs.Table.{structureSize, dataSize}
 use Rattle.header.proofs.FormLaws.{code-shown, header-kept, body-shown}
 use Rattle.header.proofs.SentLaws.{form-room, checks-small, checks-room}
 use Rattle.service.specs.Serve.{Store, Served, reported, changed, passed, reportOf, served}

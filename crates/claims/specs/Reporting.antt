@@ -12,7 +12,7 @@ use Rattle.level.specs.Need.{among}
 use Rattle.phy.specs.Change.{cleared}
 use Rattle.adapter.specs.Adapter.{phyIn, withPhy}
 use Rattle.state.specs.State.{stateWith}
-use Rattle.header.specs.Table.{known}
+use Rattle.control_codes.specs.Table.{known}
 use Rattle.header.specs.Sent.{Request, controlOf}
 use Rattle.dispatch.specs.Request.{Point, point, handled}
 use Rattle.claims.specs.Run.{exchangeOf}

@@ -15,7 +15,7 @@ use Rattle.adapter.specs.Adapter.{Adapter}
 use Rattle.state.specs.State.{stateWith}
 use Rattle.header.specs.declared.Kind.the-variants.{Srb, Linux}
 use Rattle.header.specs.Form.{srb, linux, behindHeader, returnCode}
-use Rattle.header.specs.Table.{known, structureSize, dataSize, signedAll, csmiAll, csmiSas}
+use Rattle.control_codes.specs.Table.{known, structureSize, dataSize, signedAll, csmiAll, csmiSas}
 use Rattle.header.specs.Sent.{Request, sent, formOf, controlOf, bodyOf, headerCode}
 use Rattle.service.specs.Serve.{Store}
 use Rattle.dispatch.specs.Request.{Point, point, Outcome, pointNumber, handled}

@@ -17,7 +17,7 @@ use Rattle.level.specs.declared.Level.{Level}
 use Rattle.tables.specs.Tables.{tablesOf}
 use Rattle.header.specs.declared.Kind.{Kind}
 use Rattle.header.specs.Form.{Form, returnCode, withCode}
-use Rattle.header.specs.Table.{structureSize, dataSize}
+use Rattle.control_codes.specs.Table.{structureSize, dataSize}
 use Rattle.header.specs.Sent.{sent, formBy, controlBy, HasStructure, checksCode}
 use Rattle.header.proofs.FormLaws.{code-shown}
 use Rattle.header.proofs.SentLaws.{form-room, checks-room}

@@ -12,7 +12,7 @@ use Rattle.laws.specs.Choice.{by-bool, both-left, both-right}
 use Rattle.laws.specs.Splice.{rest}
 use Rattle.wire.specs.Number.{number}
 use Rattle.header.specs.declared.Kind.the-variants.{Linux}
-use Rattle.header.specs.Table.{structureSize, dataSize}
+use Rattle.control_codes.specs.Table.{structureSize, dataSize}
 use Rattle.header.specs.Srb.{lengthHolds}
 use Rattle.header.specs.Linux.{linuxLength, linuxBody, linuxLengthHolds}
 

@@ -16,11 +16,11 @@ use Rattle.level.specs.Text.{full}
 use Rattle.header.specs.declared.Kind.{Kind}
 use Rattle.header.specs.declared.Kind.the-variants.{Srb, Linux}
 use Rattle.header.specs.Form.{srb, linux}
-use Rattle.header.specs.Table.{known, structureSize, dataSize, need}
+use Rattle.control_codes.specs.Table.{known, structureSize, dataSize, need}
 use Rattle.header.specs.Srb.{headerLength, controlCode, lengthField, srbBody, signatureHolds, lengthHolds, codeChecked, srbCode}
 use Rattle.header.specs.Linux.{linuxLength, linuxBody, directionHolds, linuxLengthHolds, linuxCode}
 use Rattle.header.specs.Sent.{Request, sent, formBy, codeBy, levelBy, formOf, controlOf, bodyOf, HasStructure, headerCode, above, refusedByLevel, checksCode}
-use Rattle.header.proofs.TableLaws.{need-full}
+use Rattle.control_codes.proofs.TableLaws.{need-full}
 use Rattle.header.proofs.LengthLaws.{length-room}
 
 -- ---- the body, lent as the rest of the buffer

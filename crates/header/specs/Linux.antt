@@ -10,7 +10,7 @@ use Rattle.laws.specs.Splice.{part}
 use Rattle.codes.specs.Codes.{dataRead, dataWrite, success, badControlCode, invalidParameter}
 use Rattle.wire.specs.Number.{number}
 use Rattle.header.specs.Form.{linux, behindHeader}
-use Rattle.header.specs.Table.{known, structureSize, dataSize}
+use Rattle.control_codes.specs.Table.{known, structureSize, dataSize}
 
 -- ---- its fields
 

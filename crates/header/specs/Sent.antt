@@ -11,7 +11,7 @@ use Rattle.level.specs.Text.{full}
 use Rattle.header.specs.declared.Kind.{Kind}
 use Rattle.header.specs.declared.Kind.the-variants.{Srb, Linux}
 use Rattle.header.specs.Form.{Form, srb, linux, behindHeader}
-use Rattle.header.specs.Table.{structureSize, dataSize, need}
+use Rattle.control_codes.specs.Table.{structureSize, dataSize, need}
 use Rattle.header.specs.Srb.{controlCode, srbCode}
 use Rattle.header.specs.Linux.{linuxCode}
 

@@ -10,7 +10,7 @@ use Rattle.codes.specs.Codes.{success, badControlCode, invalidParameter}
 use Rattle.wire.specs.Number.{number}
 use Rattle.wire.specs.Same.{sameBytes}
 use Rattle.header.specs.Form.{srb, behindHeader}
-use Rattle.header.specs.Table.{known, structureSize, dataSize, signedAll, csmiAll, csmiSas}
+use Rattle.control_codes.specs.Table.{known, structureSize, dataSize, signedAll, csmiAll, csmiSas}
 
 -- ---- its fields
 

@@ -1,11 +1,11 @@
 // A structure and its data, within a length.
-use crate::table::data_size;
-use crate::table::structure_size;
+use control_codes::data_size;
+use control_codes::structure_size;
 ghost use mathlib.Core.Path.{_≡_};
 ghost use Prim.Native.Nat.{_+_, _≤_};
 ghost use lib.Dec.{leb};
 ghost use lib.ListN.{length};
-ghost use Rattle.header.specs.Table.{structureSize, dataSize};
+ghost use Rattle.control_codes.specs.Table.{structureSize, dataSize};
 ghost use Rattle.header.specs.Srb.{lengthHolds};
 
 // The structure and its data are within n bytes.

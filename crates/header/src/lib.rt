@@ -1,10 +1,8 @@
-// The header of a request, of either kind, and the checks on it, up to the level (document 01, "Request"; W-201, W-202).
+// The header of a request, of either kind, and the checks on it, up to the level (document 01, "Request"; W-201).
 mod length;
 mod linux;
-mod reset;
 mod sent;
 mod srb;
-mod table;
 
 pub use sent::access_code;
 pub use sent::control_code;

@@ -1,6 +1,6 @@
 // The checks on the Linux header, in their order. The control code is handed in beside the buffer.
 use crate::length::length_holds;
-use crate::table::is_known;
+use control_codes::is_known;
 ghost use mathlib.Core.Path.{_≡_};
 ghost use Prim.Native.Nat.{_≤_};
 ghost use lib.ListN.{length};

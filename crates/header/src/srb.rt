@@ -1,15 +1,15 @@
 // The checks on the first header, in document 01's order.
 use crate::length::length_holds;
-use crate::table::is_known;
-use crate::table::need;
-use crate::table::signed_all;
+use control_codes::is_known;
+use control_codes::need;
+use control_codes::signed_all;
 use level::Level;
 ghost use mathlib.Core.Path.{_≡_};
 ghost use Prim.Native.Nat.{_≤_};
 ghost use lib.ListN.{length};
 ghost use Rattle.header.specs.declared.Kind.the-variants.{Srb};
 ghost use Rattle.header.specs.Form.{srb};
-ghost use Rattle.header.specs.Table.{structureSize};
+ghost use Rattle.control_codes.specs.Table.{structureSize};
 ghost use Rattle.header.specs.Srb.{headerLength, controlCode, lengthField, srbBody, signatureHolds, lengthHolds, codeChecked, srbCode};
 ghost use Rattle.header.specs.Sent.{sent, above, checksCode};
 

@@ -5,8 +5,8 @@ use Prim.Native.Nat.{ℕ, _+_, _≤_}
 use native.Mathlib.Nat.{le-trans, le-add-right}
 use Rattle.codes.specs.Codes.{stpPassthru}
 use Rattle.stp.specs.Body.{dataLength}
-use Rattle.header.specs.Table.{structureSize, dataSize}
-use Rattle.header.proofs.TableLaws.{room}
+use Rattle.control_codes.specs.Table.{structureSize, dataSize}
+use Rattle.control_codes.proofs.TableLaws.{room}
 use Rattle.adapter.specs.Adapter.{Adapter}
 use Rattle.adapter.specs.Changed.{Changed, leaves}
 use Rattle.reports.specs.Report.{Report, report}

@@ -5,7 +5,7 @@ ghost use lib.ListN.{length};
 ghost use Rattle.adapter.specs.Adapter.{FewPhys, FewRows, mediumSize};
 ghost use Rattle.tables.specs.Tables.{tablesSize, tablesOf};
 ghost use Rattle.reports.specs.Report.{report};
-ghost use Rattle.header.specs.Table.{structureSize, dataSize};
+ghost use Rattle.control_codes.specs.Table.{structureSize, dataSize};
 ghost use Rattle.service.specs.Serve.{storeOf, serves, reportOf, served};
 
 fn report(tables: &[u8], control: u32, body: &mut [u8]) -> u32

@@ -1,7 +1,7 @@
 -- `service::report` meets its contract. Assumes nothing.
-use Rattle.header.proofs.TableLaws.{room}
+use Rattle.control_codes.proofs.TableLaws.{room}
 use Rattle.service.specs.Serve.{reportOf}
-use Rattle.header.specs.Table.{structureSize}
+use Rattle.control_codes.specs.Table.{structureSize}
 use borrow.Author.Needs.{needs}
 use Rattle.laws.specs.Choice.{picks}
 use Rattle.service.proofs.report.Statement.{statement}

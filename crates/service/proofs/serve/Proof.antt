@@ -1,7 +1,7 @@
 -- `service::serve` meets its contract. Assumes nothing.
 use Rattle.service.proofs.Laws.{changed-by, reported-by, passed-by, passthrough-lent, room-and-data, structure-part}
 use Rattle.service.specs.Serve.{served}
-use Rattle.header.specs.Table.{structureSize}
+use Rattle.control_codes.specs.Table.{structureSize}
 use borrow.Author.Needs.{needs}
 use Rattle.laws.specs.Choice.{picks}
 use Rattle.service.proofs.serve.Statement.{statement}

@@ -13,7 +13,7 @@ use Rattle.level.specs.declared.Level.{Level}
 use Rattle.level.specs.Text.{restricted, full}
 use Rattle.level.proofs.BoundLaws.{need-bound, write-need}
 use Rattle.stp.specs.Body.{command}
-use Rattle.header.specs.Table.{structureSize, linkErrorsNeed, need}
+use Rattle.control_codes.specs.Table.{structureSize, linkErrorsNeed, need}
 
 -- ---- rooms
 

@@ -4,7 +4,7 @@ use level::Level;
 ghost use mathlib.Core.Path.{_≡_};
 ghost use Prim.Native.Nat.{_≤_};
 ghost use lib.ListN.{length};
-ghost use Rattle.header.specs.Table.{known, structureSize, dataSize, signedAll, need};
+ghost use Rattle.control_codes.specs.Table.{known, structureSize, dataSize, signedAll, need};
 
 // The control code is served.
 pub fn is_known(control: u32) -> bool

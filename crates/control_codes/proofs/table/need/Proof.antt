@@ -1,10 +1,10 @@
--- `header::table::need` meets its contract. Assumes nothing.
+-- `control_codes::table::need` meets its contract. Assumes nothing.
 use borrow.Author.Needs.{needs}
-use Rattle.header.proofs.TableLaws.{errors-room, passthrough-room}
-use Rattle.header.specs.Table.{need}
+use Rattle.control_codes.proofs.TableLaws.{errors-room, passthrough-room}
+use Rattle.control_codes.specs.Table.{need}
 use Rattle.laws.specs.Choice.{picks}
-use Rattle.header.proofs.table.need.Statement.{statement}
-use Rattle.header.proofs.table.need.Tie as tie
+use Rattle.control_codes.proofs.table.need.Statement.{statement}
+use Rattle.control_codes.proofs.table.need.Tie as tie
 
 pub need-spec : {M : Type 1} → statement M
 unfolding need
