@@ -8,4 +8,4 @@ pub counters-of-spec : {M : Type 1} → statement M
 unfolding countersAt
 counters-of-spec =
     tie.close
-    (tie.spec (λ c κs. search needs) (λ c κs. search needs) (λ c κs. search needs) (λ c κs. search needs) (λ c. cc))
+    (tie.spec (λ c κs. search needs) (λ c κs. search needs) (λ c κs. search needs) (λ c κs. search needs) (λ c. search depth 9))
