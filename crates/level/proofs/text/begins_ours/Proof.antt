@@ -9,4 +9,4 @@ pub begins-ours-spec : {M : Type 1} → statement M
 unfolding begins ascii
 begins-ours-spec =
     tie.close
-    (tie.spec (λ c. search needs) (λ c κs. search needs) (λ c. cc))
+    (tie.spec (λ c. search needs) (λ c κs. search needs) (λ c. c .same-at .ensures))

@@ -1,4 +1,5 @@
 -- `level::text::meaning` meets its contract. Assumes nothing.
+use Rattle.level.proofs.MadeLaws.{meant-absent, meant-given, meant-bad}
 use borrow.Author.Needs.{needs}
 use Rattle.level.proofs.text.meaning.Statement.{statement}
 use Rattle.level.proofs.text.meaning.Tie as tie
@@ -6,4 +7,5 @@ use Rattle.level.proofs.text.meaning.Tie as tie
 pub meaning-spec : {M : Type 1} → statement M
 meaning-spec =
     tie.close
-    (tie.spec (λ c. search needs) (λ c. search needs) (λ c. search needs) (λ c. cc) (λ c. cc) (λ c. cc))
+    (tie.spec (λ c. search needs) (λ c. search needs) (λ c. search needs) (λ c. search meant-absent)
+    (λ c. search meant-given) (λ c. search meant-bad))

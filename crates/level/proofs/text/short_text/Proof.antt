@@ -1,4 +1,5 @@
 -- `level::text::short_text` meets its contract. Assumes nothing.
+use Rattle.level.proofs.MadeLaws.{meant-by}
 use borrow.Author.Needs.{needs}
 use Rattle.level.proofs.text.short_text.Statement.{statement}
 use Rattle.level.proofs.text.short_text.Tie as tie
@@ -6,4 +7,4 @@ use Rattle.level.proofs.text.short_text.Tie as tie
 pub short-text-spec : {M : Type 1} → statement M
 short-text-spec =
     tie.close
-    (tie.spec (λ c κs. search needs) (λ c κs. search needs) (λ c. cc))
+    (tie.spec (λ c κs. search needs) (λ c κs. search needs) (λ c. search meant-by))
