@@ -1,6 +1,6 @@
 -- What is proved of the definitions in specs/Row.antt. Assumes nothing.
 use mathlib.Core.Path.{_≡_}
-use mathlib.Core.Bool.{true}
+use mathlib.Core.Bool.{Bool, true, not, _||_}
 use mathlib.Core.List.{List}
 use Prim.Native.Nat.{ℕ, _+_, _-_, _<_, _≤_}
 use native.Mathlib.Omega.{arith}
@@ -9,7 +9,13 @@ use Rattle.laws.specs.Choice.{both}
 use Rattle.laws.specs.All.{all-by}
 use Rattle.wire.specs.Same.{sameBytes}
 use Rattle.wire.proofs.SameLaws.{same-refl}
-use Rattle.rows.specs.Row.{Row, rowAt, rowZero, zeroFrom, zeroRow}
+use Rattle.rows.specs.Row.{Row, apart, rowAt, rowZero, zeroFrom, zeroRow}
+
+-- ---- two rows, compared by both
+
+pub apart-read : (r s : Row) (a b : Bool) → a ≡ sameBytes (r .sas) (s .sas) → b ≡ sameBytes (r .os) (s .os) → not (a || b) ≡ apart r s
+unfolding apart
+apart-read r s a b p q = rw (p, q)
 
 -- ---- zero from a on is what it says of each row
 

@@ -34,6 +34,11 @@ pub os-key-read : (b : List ℕ) (i at n r : ℕ) → i < 64 → at ≡ rowStart
 unfolding osKey
 os-key-read b i at n r h e p q = q ∙ rw (p, e, ← os-in b i h)
 
+-- and looks them up
+pub unmarked-read : (seen b : List ℕ) (i x y : ℕ) → x ≡ sasKey (rowAt (rowsOf b) i) → y ≡ osKey (rowAt (rowsOf b) i) → eqb (getD seen x 0) 0 && eqb (getD seen (1024 + y) 0) 0 ≡ unmarked seen b i
+unfolding unmarked
+unmarked-read seen b i x y p q = rw (p, q)
+
 -- and marks the second
 pub mark-room : (seen : List ℕ) (x y : ℕ) → length seen ≡ 2048 → y < 1024 → 1024 + y < length (set seen x 1)
 mark-room seen x y n h = omega (arith, length-set seen x 1)
