@@ -18,6 +18,9 @@ use Rattle.header.specs.Linux.{linuxLength, linuxBody, linuxLengthHolds}
 
 -- ---- Length
 
+pub data-by : (control size n d : ℕ) (body : List ℕ) → d ≡ dataSize control body → leb (size + d) n ≡ leb (size + dataSize control body) n
+data-by control size n d body e = rw e
+
 module _ (control n : ℕ) (body : List ℕ) where
   -- too short for the structure, or longer than the body
   pub short-structure : (size : ℕ) → n < size → size ≡ structureSize control → false ≡ lengthHolds control n body

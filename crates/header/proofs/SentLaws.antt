@@ -19,9 +19,17 @@ use Rattle.header.specs.Form.{srb, linux}
 use Rattle.control_codes.specs.Table.{known, structureSize, dataSize, need}
 use Rattle.header.specs.Srb.{headerLength, controlCode, lengthField, srbBody, signatureHolds, lengthHolds, codeChecked, srbCode}
 use Rattle.header.specs.Linux.{linuxLength, linuxBody, directionHolds, linuxLengthHolds, linuxCode}
-use Rattle.header.specs.Sent.{Request, sent, formBy, codeBy, levelBy, formOf, controlOf, bodyOf, HasStructure, headerCode, above, refusedByLevel, checksCode}
+use Rattle.header.specs.Sent.{Request, sent, formBy, controlBy, codeBy, levelBy, formOf, controlOf, bodyOf, HasStructure, headerCode, above, refusedByLevel, checksCode}
 use Rattle.control_codes.proofs.TableLaws.{need-full}
 use Rattle.header.proofs.LengthLaws.{length-room}
+
+-- ---- fields, as they were read
+
+pub control-srb : (kind : Kind) (buffer : List ℕ) (r : ℕ) → kind ≡ Srb → r ≡ controlCode buffer → r ≡ controlBy kind buffer
+control-srb kind buffer r k e = rw k e
+
+pub checked-by : (buffer : List ℕ) (control r : ℕ) → control ≡ controlCode buffer → r ≡ codeChecked control buffer → r ≡ codeChecked (controlCode buffer) buffer
+checked-by buffer control r e p = rw e at p
 
 -- ---- the body, lent as the rest of the buffer
 
