@@ -9,6 +9,10 @@ use Rattle.tally.specs.declared.Line.{Line}
 use Rattle.tally.specs.Kinds.{LineKind, Granted, Denied, Otherwise, Short, isGranted, isDenied, isShort, isOtherwise, is, Partition}
 use Rattle.tally.specs.Totals.{one}
 
+-- the fourth kind, by the three tests
+pub otherwise-by : (l : Line) (a b d : Bool) → a ≡ isGranted l → b ≡ isDenied l → d ≡ isShort l → not a && (not b && not d) ≡ isOtherwise l
+otherwise-by l a b d p q r = rw (p, q, r)
+
 -- the three that the numbers show shut each other out
 granted-denied : (l : Line) → isGranted l ≡ true → isDenied l ≡ false
 granted-denied l p =

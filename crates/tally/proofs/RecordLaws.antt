@@ -11,13 +11,19 @@ use borrow.Author.Tests.{lt-ltb, le-ltb}
 use Rattle.codes.specs.Codes.{shortBuffer}
 use Rattle.laws.specs.Fill.{listTo, length-listTo, listTo-same}
 use Rattle.laws.specs.Splice.{part, splice, splice-next, part-first, part-behind}
-use Rattle.wire.specs.Number.{bytes}
+use Rattle.wire.specs.Number.{number, bytes}
 use Rattle.wire.proofs.NumberLaws.{length-bytes, number-bytes}
 use Rattle.tally.specs.declared.Line.{Line}
 use Rattle.tally.specs.declared.Totals.{Totals}
+use Rattle.tally.specs.Kinds.{line}
 use Rattle.tally.specs.Totals.{noTotals, numberOf, tallyOf, counted, Sums}
 use Rattle.tally.specs.Record.{lineBytes, lineAt, linesIn, totalsBytes, wrote, tallied}
 use Rattle.tally.proofs.TotalsLaws.{tally-more, sums}
+
+-- ---- a line
+
+pub line-by : (lines : List ℕ) (k call code : ℕ) → call ≡ number (part lines (8 * k) 4) → code ≡ number (part lines (8 * k + 4) 4) → line call code ≡ lineAt lines k
+line-by lines k call code p q = rw (p, q)
 
 -- ---- the loop over a record's lines
 

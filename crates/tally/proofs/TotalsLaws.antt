@@ -8,13 +8,26 @@ use lib.ListN.{length-append}
 use Rattle.laws.specs.Cases.{All}
 use Rattle.laws.specs.Runs.{shownBy}
 use Rattle.tally.specs.declared.Line.{Line}
+use Rattle.tally.specs.declared.Taken.{Taken}
+use Rattle.tally.specs.declared.Taken.the-variants.{Handled}
 use Rattle.tally.specs.declared.Totals.{Totals}
-use Rattle.tally.specs.Kinds.{LineKind, Granted, Denied, Otherwise, Short, is}
-use Rattle.tally.specs.Totals.{one, numberOf, countOf, tallyOf, counted, Sums, AllSum}
+use Rattle.tally.specs.Kinds.{LineKind, Granted, Denied, Otherwise, Short, isGranted, isDenied, isShort, isOtherwise, is}
+use Rattle.tally.specs.Totals.{totals, one, numberOf, countOf, tallyOf, counted, after, Sums, AllSum}
 use native.Mathlib.Nat.{add-zero}
 use Rattle.tally.proofs.KindsLaws.{counts-once}
 
 -- ---- one line more
+
+-- each total grown by its own test
+pub counted-by : (t : Totals) (l : Line) (a b d e : Bool) (granted denied otherwise short : ℕ)
+    → a ≡ isGranted l → b ≡ isDenied l → d ≡ isOtherwise l → e ≡ isShort l
+    → granted ≡ t .granted + one a → denied ≡ t .denied + one b → otherwise ≡ t .otherwise + one d → short ≡ t .short + one e
+    → totals (t .requests + 1) granted denied otherwise short ≡ counted t l
+unfolding counted
+counted-by t l a b d e granted denied otherwise short p q r s g n o h = rw (g, n, o, h, p, q, r, s)
+
+pub after-handled : (t r : Totals) (taken : Taken) (l : Line) → taken ≡ Handled l → r ≡ counted t l → r ≡ after t taken
+after-handled t r taken l e p = rw e p
 
 count-more : (k : LineKind) (lines : List Line) (l : Line) → countOf k (lines ++ (l ∷ [])) ≡ countOf k lines + one (is k l)
 unfolding numberOf

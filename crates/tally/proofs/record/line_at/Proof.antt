@@ -1,4 +1,5 @@
 -- `tally::record::line_at` meets its contract. Assumes nothing.
+use Rattle.tally.proofs.RecordLaws.{line-by}
 use borrow.Author.Needs.{needs}
 use Rattle.tally.proofs.record.line_at.Statement.{statement}
 use Rattle.tally.proofs.record.line_at.Tie as tie
@@ -6,4 +7,4 @@ use Rattle.tally.proofs.record.line_at.Tie as tie
 pub line-at-spec : {M : Type 1} → statement M
 line-at-spec =
     tie.close
-    (tie.spec (λ c. search needs) (λ c κs. search needs) (λ c. search needs) (λ c κs. search needs) (λ c. cc))
+    (tie.spec (λ c. search needs) (λ c κs. search needs) (λ c. search needs) (λ c κs. search needs) (λ c. search line-by))
