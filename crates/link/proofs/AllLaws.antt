@@ -1,14 +1,18 @@
 -- What is proved of the definitions in specs/All.antt. Assumes nothing.
 use mathlib.Core.Path.{_≡_}
-use mathlib.Core.Bool.{true}
+use mathlib.Core.Bool.{Bool, true}
 use Prim.Native.Nat.{ℕ, _<_}
 use lib.ListN.{length}
-use Rattle.laws.specs.All.{all-at}
+use Rattle.laws.specs.All.{allTo, all-at}
 use Rattle.phy.specs.declared.Phy.{Phy}
 use Rattle.adapter.specs.Adapter.{Adapter, phyIn, withPhy}
 use Rattle.adapter.proofs.StoreLaws.{all-stored, counts-stored}
 use Rattle.link.specs.Rule.{negotiatedHolds}
 use Rattle.link.specs.All.{negotiatedAll}
+
+pub all-by-count : (ad : Adapter) (p : ℕ) (r : Bool) → p ≡ ad .«phy_count» → r ≡ allTo (λ (n : ℕ). negotiatedHolds (phyIn ad n)) p → r ≡ negotiatedAll ad
+unfolding negotiatedAll
+all-by-count ad p r e q = rw e at q
 
 pub negotiated-at : (ad : Adapter) (n : ℕ) → negotiatedAll ad ≡ true → n < ad .«phy_count» → negotiatedHolds (phyIn ad n) ≡ true
 unfolding negotiatedAll

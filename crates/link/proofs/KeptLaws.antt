@@ -8,14 +8,30 @@ use borrow.Author.Tests.{eq-eqb, ne-eqb}
 use Rattle.laws.specs.Choice.{by-bool, either}
 use Rattle.phy.specs.declared.Phy.{Phy}
 use Rattle.phy.specs.declared.PhyIdentifier.{PhyIdentifier}
-use Rattle.phy.specs.Entity.{negotiatedOf}
+use Rattle.phy.specs.Entity.{noDevice, negotiatedOf, programmedMinimum, programmedMaximum}
 use Rattle.phy.specs.Change.{cleared, raised, negotiatedAs}
 use Rattle.fields.specs.Rules.{fieldsHold}
 use Rattle.phy.proofs.KeptLaws.{Kept, Settings, kept-trans, settings-trans}
 use Rattle.phy.proofs.ChangedLaws.{kept-cleared, kept-raised, kept-negotiated, settings-cleared, settings-raised, settings-negotiated, negotiated-cleared, negotiated-raised, negotiated-now}
 use Rattle.fields.proofs.HoldLaws.{fields-kept}
 use Rattle.codes.specs.Codes.{phyDisabled, linkRateFailed}
-use Rattle.link.specs.Rule.{plainRule, ruleOf, counted, reset, disabled, negotiatedHolds}
+use Rattle.link.specs.Rule.{ratesRule, plainRule, ruleOf, counted, reset, disabled, negotiatedHolds}
+
+-- ---- the rule and a reset, by their steps
+
+pub plain-by : (phy : Phy) (none : Bool) (minimum maximum r : ℕ) → none ≡ noDevice phy → minimum ≡ programmedMinimum phy → maximum ≡ programmedMaximum phy
+    → r ≡ ratesRule none minimum maximum (phy .lowest) (phy .highest) → r ≡ plainRule phy
+unfolding plainRule
+plain-by phy none minimum maximum r p q s e = e ∙ rw (p, q, s)
+
+pub reset-by : (phy a r : Phy) (rate : ℕ) → rate ≡ ruleOf phy → a ≡ negotiatedAs phy rate → r ≡ counted a rate → r ≡ reset phy
+unfolding reset
+reset-by phy a r rate e p q = q ∙ rw (p, e)
+
+pub holds-of : (phy x : Phy) (r : Bool) → x ≡ phy → r ≡ negotiatedHolds x → r ≡ negotiatedHolds phy
+holds-of phy x r e p = rw e at p
+
+-- ---- what they keep
 
 -- the rule goes by what neither changes
 rule-kept : (a b : Phy) → Kept a b → Settings a b → ruleOf b ≡ ruleOf a

@@ -1,11 +1,10 @@
 -- `link::all::all_negotiated` meets its contract. Assumes nothing.
-use Rattle.link.specs.All.{negotiatedAll}
+use Rattle.link.proofs.AllLaws.{all-by-count}
 use borrow.Author.Needs.{needs}
 use Rattle.link.proofs.all.all_negotiated.Statement.{statement}
 use Rattle.link.proofs.all.all_negotiated.Tie as tie
 
 pub all-negotiated-spec : {M : Type 1} → statement M
-unfolding negotiatedAll
 all-negotiated-spec =
     tie.close
-    (tie.spec (λ c κs. search needs) (λ c κs. search needs) (λ c. cc))
+    (tie.spec (λ c κs. search needs) (λ c κs. search needs) (λ c. search all-by-count))
