@@ -17,7 +17,7 @@ use Rattle.phy.specs.declared.Phy.{Phy}
 use Rattle.phy.specs.declared.PhyIdentifier.{PhyIdentifier}
 use Rattle.phy.specs.Block.{countersAt, phyOf, zeroPhy}
 use Rattle.codes.specs.Codes.{endDevice}
-use Rattle.phy.specs.Entity.{byteOf, protocolsPlace, attachedOf, attachedType, noDevice, isSata}
+use Rattle.phy.specs.Entity.{byteOf, attachedPlace, protocolsPlace, attachedOf, attachedType, noDevice, isSata}
 use Rattle.fields.specs.Rules.{isRate, inRange, rangeHolds, identifyHolds, ratesHold, emptyHolds, deviceHolds, attachedHold, heldSignatureHolds, spinupAllowed, fieldsHold, phyZero}
 
 -- ---- what the code finds
@@ -25,6 +25,17 @@ use Rattle.fields.specs.Rules.{isRate, inRange, rangeHolds, identifyHold
 -- what a look through all n bytes of a field tells
 pub zero-all : (s : List ℕ) (n : ℕ) (r : Bool) → length (map (λ (v : ℕ). v) s) ≡ n → r ≡ allZero (part s 0 n) → r ≡ allZero s
 zero-all s n r h e = e ∙ ap allZero (ap (part s 0) (sym (length-unmapped ℕ s n h)) ∙ part-all s)
+
+-- tests of two rates, and of two fields, that others made
+pub in-range-by : (least minimum maximum most : ℕ) (a b : Bool) → a ≡ isRate minimum → b ≡ isRate maximum
+    → a && b && leb least minimum && leb minimum maximum && leb maximum most ≡ inRange least minimum maximum most
+unfolding inRange
+in-range-by least minimum maximum most a b p q = rw (p, q)
+
+pub empty-by : (phy : Phy) (a b : Bool) → a ≡ allZero (part (phy .entity) attachedPlace 28) → b ≡ allZero (phy .signature)
+    → a && b && eqb (phy .held) 0 && eqb (phy .lowest) 0 && eqb (phy .highest) 0 ≡ emptyHolds phy
+unfolding emptyHolds attachedOf
+empty-by phy a b p q = rw (p, q)
 
 -- the phy of a block of zeros is all zero
 pub zero-phy : phyZero zeroPhy ≡ true

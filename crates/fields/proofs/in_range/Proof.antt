@@ -1,11 +1,10 @@
 -- `fields::in_range` meets its contract. Assumes nothing.
-use Rattle.fields.specs.Rules.{inRange}
+use Rattle.fields.proofs.RulesLaws.{in-range-by}
 use borrow.Author.Needs.{needs}
 use Rattle.fields.proofs.in_range.Statement.{statement}
 use Rattle.fields.proofs.in_range.Tie as tie
 
 pub in-range-spec : {M : Type 1} → statement M
-unfolding inRange
 in-range-spec =
     tie.close
-    (tie.spec (λ c κs. search needs) (λ c κs. search needs) (λ c. cc))
+    (tie.spec (λ c κs. search needs) (λ c κs. search needs) (λ c. search in-range-by))

@@ -9,4 +9,4 @@ pub range-holds-spec : {M : Type 1} → statement M
 unfolding rangeHolds hardwareMinimum hardwareMaximum
 range-holds-spec =
     tie.close
-    (tie.spec (λ c. search needs) (λ c. search needs) (λ c κs. search needs) (λ c. cc))
+    (tie.spec (λ c. search needs) (λ c. search needs) (λ c κs. search needs) (λ c. c .in-range .ensures))
