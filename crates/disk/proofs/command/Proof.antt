@@ -1,13 +1,12 @@
 -- `disk::command` meets its contract. Assumes nothing.
 use Rattle.disk.proofs.StoresLaws.{asked-lent}
-use Rattle.disk.specs.Disk.{performed}
+use Rattle.disk.proofs.MadeLaws.{performed-made}
 use borrow.Author.Needs.{needs}
 use Rattle.disk.proofs.command.Statement.{statement}
 use Rattle.disk.proofs.command.Tie as tie
 
 pub command-spec : {M : Type 1} → statement M
-unfolding performed
 command-spec =
     tie.close
     (tie.spec (λ c κs. search needs) (λ c κs. search (asked-lent, needs)) (λ c. search needs) (λ c. search needs)
-    (λ c. cc))
+    (λ c. search performed-made))

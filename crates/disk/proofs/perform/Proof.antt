@@ -1,4 +1,5 @@
 -- `disk::perform` meets its contract. Assumes nothing.
+use Rattle.disk.proofs.MadeLaws.{acted-by}
 use borrow.Author.Needs.{needs}
 use Rattle.disk.proofs.perform.Statement.{statement}
 use Rattle.disk.proofs.perform.Tie as tie
@@ -6,4 +7,4 @@ use Rattle.disk.proofs.perform.Tie as tie
 pub perform-spec : {M : Type 1} → statement M
 perform-spec =
     tie.close
-    (tie.spec (λ c κs. search needs) (λ c κs. search needs) (λ c. search needs) (λ c. search needs) (λ c. cc))
+    (tie.spec (λ c κs. search needs) (λ c κs. search needs) (λ c. search needs) (λ c. search needs) (λ c. search acted-by))

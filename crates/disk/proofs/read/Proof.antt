@@ -1,4 +1,5 @@
 -- `disk::read` meets its contract. Assumes nothing.
+use Rattle.disk.proofs.MadeLaws.{data-by}
 use borrow.Author.Needs.{needs}
 use Rattle.disk.proofs.read.Statement.{statement}
 use Rattle.disk.proofs.read.Tie as tie
@@ -7,4 +8,4 @@ pub read-spec : {M : Type 1} → statement M
 read-spec =
     tie.close
     (tie.spec (λ c. search needs) (λ c. search needs) (λ c. search needs) (λ c. search needs) (λ c κs. search needs)
-    (λ c κs. search needs) (λ c. search needs) (λ c. cc))
+    (λ c κs. search needs) (λ c. search needs) (λ c. search data-by))

@@ -1,13 +1,12 @@
 -- `disk::fis::ata_command` meets its contract. Assumes nothing.
-use Rattle.disk.specs.Disk.{ataCommand}
+use Rattle.disk.proofs.MadeLaws.{asked-by}
 use borrow.Author.Needs.{needs}
 use Rattle.disk.proofs.fis.ata_command.Statement.{statement}
 use Rattle.disk.proofs.fis.ata_command.Tie as tie
 
 pub ata-command-spec : {M : Type 1} → statement M
-unfolding ataCommand
 ata-command-spec =
     tie.close
     (tie.spec (λ c. search needs) (λ c. search needs) (λ c κs. search needs) (λ c. search needs) (λ c. search needs)
     (λ c. search needs) (λ c. search needs) (λ c κs. search needs) (λ c. search needs) (λ c κs. search needs)
-    (λ c κs. search needs) (λ c. cc))
+    (λ c κs. search needs) (λ c. search asked-by))

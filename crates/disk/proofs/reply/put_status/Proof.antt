@@ -1,12 +1,11 @@
 -- `disk::reply::put_status` meets its contract. Assumes nothing.
-use Rattle.disk.specs.Disk.{withStatus}
+use Rattle.disk.proofs.MadeLaws.{status-by}
 use borrow.Author.Needs.{needs}
 use Rattle.disk.proofs.reply.put_status.Statement.{statement}
 use Rattle.disk.proofs.reply.put_status.Tie as tie
 
 pub put-status-spec : {M : Type 1} → statement M
-unfolding withStatus
 put-status-spec =
     tie.close
     (tie.spec (λ c. search needs) (λ c κs. search needs) (λ c κs. search needs) (λ c. search needs)
-    (λ c κs. search needs) (λ c. search needs) (λ c. cc))
+    (λ c κs. search needs) (λ c. search needs) (λ c. search status-by))
