@@ -44,7 +44,7 @@ stale_program() {
     [ $? -eq 1 ] && grep -q 'Compiling lab ' "$work/errors" && grep -q '2002 phy is not there' "$work/printed"
 }
 removed_source() {
-    rm "$tree/crates/wire/must-fail/"*.edit
+    rm "$tree/crates/compare/must-fail/"*.edit
     in_tree
     [ $? -eq 1 ] && [ "$(proofs)" -eq 3 ]
 }
