@@ -1,7 +1,5 @@
 -- The laws that the proofs of this crate and of the crates above cite.
 pub mod RangesLaws
 pub mod FewestLaws
-pub mod MadeLaws
-pub mod WalkLaws
 pub mod BoundLaws
 pub mod StarredLaws

@@ -1,11 +1,10 @@
-// The level that a driver is set to, from the text that sets it, and the level that a command needs (document 01, "Level").
+// The level that a driver is set to, as an entry of a text says it, and the level that a command needs (document 01, "Level").
+mod entry;
 mod need;
-mod text;
 
+use entry::begins_ours;
+use entry::exact_level;
 use need::by_range;
-use text::begins_ours;
-use text::exact_level;
-pub use text::of_text;
 ghost use mathlib.Core.Path.{_≡_};
 ghost use Rattle.level.specs.Text.{entrySetting};
 ghost use Rattle.level.specs.Need.{needOf};

@@ -19,7 +19,7 @@ fn say_start(text: &[u8]) {
 }
 
 fn show(text: &[u8]) {
-    let t = level::of_text(text);
+    let t = level_text::of_text(text);
     io::print_decimal(STDOUT_FILENO, t.call as u64);
     say(b" ");
     io::print_decimal(STDOUT_FILENO, t.level.0 as u64);

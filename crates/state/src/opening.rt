@@ -103,7 +103,7 @@ fn open_state(text: &[u8], file: &[u8], size: usize, state: &mut [u8]) -> u32
     requires { ⌜ length (now state) ≡ stateSize ⌝ }
     ensures { λ r. ⌜ opens r (stateOf (now (state .exit))) ≡ openedText (textLevel (now (text .entry))) (now (file .entry)) size ⌝ }
 {
-    open_text(state, level::of_text(text), file, size)
+    open_text(state, level_text::of_text(text), file, size)
 }
 
 // Opens the adapter of a file, at the level of a text, with the disks of a medium, and leaves its state. A refused opening leaves the zero
