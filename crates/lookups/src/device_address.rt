@@ -15,9 +15,9 @@ pub fn get_device_address(tables: &[u8], body: &mut [u8]) -> u32
         ≡ deviceAddress (tablesOf (now (tables .entry)) .rows) (tablesOf (now (tables .entry)) .«row_count») (now (body .entry)) ⌝ }
 {
     let a = tables::row_count(tables) as usize;
-    let i = rows::find_os(&tables[tables::ROWS..tables::CONTROLLER], a, &body[0..4]);
+    let i = conversions::find_os(&tables[tables::ROWS..tables::CONTROLLER], a, &body[0..4]);
     if i < a {
-        rows::put_sas(&tables[tables::ROWS..tables::CONTROLLER], i, body, 4);
+        conversions::put_sas(&tables[tables::ROWS..tables::CONTROLLER], i, body, 4);
         return codes::SUCCESS;
     }
     codes::NO_DEVICE_ADDRESS

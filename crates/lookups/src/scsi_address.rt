@@ -15,9 +15,9 @@ pub fn get_scsi_address(tables: &[u8], body: &mut [u8]) -> u32
         ≡ scsiAddress (tablesOf (now (tables .entry)) .rows) (tablesOf (now (tables .entry)) .«row_count») (now (body .entry)) ⌝ }
 {
     let a = tables::row_count(tables) as usize;
-    let i = rows::find_sas(&tables[tables::ROWS..tables::CONTROLLER], a, &body[0..16]);
+    let i = conversions::find_sas(&tables[tables::ROWS..tables::CONTROLLER], a, &body[0..16]);
     if i < a {
-        rows::put_os(&tables[tables::ROWS..tables::CONTROLLER], i, body, 16);
+        conversions::put_os(&tables[tables::ROWS..tables::CONTROLLER], i, body, 16);
         return codes::SUCCESS;
     }
     codes::NO_SCSI_ADDRESS

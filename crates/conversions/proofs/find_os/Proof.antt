@@ -1,11 +1,11 @@
--- `rows::find::find_os` meets its contract. Assumes nothing.
+-- `conversions::find_os` meets its contract. Assumes nothing.
 use mathlib.Core.Path.{_≡_}
 use Prim.Native.Nat.{_-_, _≤_}
 use Rattle.laws.specs.First.{firstFrom, first-loop}
 use Rattle.wire.specs.Same.{sameBytes}
 use Rattle.rows.specs.Row.{rowsOf, rowAt, osIndex}
-use Rattle.rows.proofs.find.find_os.Statement.{statement}
-use Rattle.rows.proofs.find.find_os.Tie as tie
+use Rattle.conversions.proofs.find_os.Statement.{statement}
+use Rattle.conversions.proofs.find_os.Tie as tie
 
 abbrev Inv-loop : tie.InvT-loop
 Inv-loop rows a os i₀ i = (i ≤ a) × (osIndex (rowsOf rows) a os ≡ firstFrom (λ k. sameBytes (rowAt (rowsOf rows) k .os) os) i (a - i))

@@ -1,8 +1,8 @@
--- `rows::find::has_os` meets its contract. Assumes nothing.
+-- `conversions::has_os` meets its contract. Assumes nothing.
 use Rattle.rows.proofs.ReadLaws.{os-compared, os-unlike-by}
 use borrow.Author.Needs.{needs}
-use Rattle.rows.proofs.find.has_os.Statement.{statement}
-use Rattle.rows.proofs.find.has_os.Tie as tie
+use Rattle.conversions.proofs.has_os.Statement.{statement}
+use Rattle.conversions.proofs.has_os.Tie as tie
 
 pub has-os-spec : {M : Type 1} → statement M
 has-os-spec =

@@ -1,8 +1,8 @@
--- `rows::find::has_sas` meets its contract. Assumes nothing.
+-- `conversions::has_sas` meets its contract. Assumes nothing.
 use Rattle.rows.proofs.ReadLaws.{sas-compared, sas-unlike}
 use borrow.Author.Needs.{needs}
-use Rattle.rows.proofs.find.has_sas.Statement.{statement}
-use Rattle.rows.proofs.find.has_sas.Tie as tie
+use Rattle.conversions.proofs.has_sas.Statement.{statement}
+use Rattle.conversions.proofs.has_sas.Tie as tie
 
 pub has-sas-spec : {M : Type 1} → statement M
 has-sas-spec =

@@ -1,11 +1,12 @@
-// The row for a SAS address and LUN, and the row for four OS bytes: what codes 27 and 28 look up, and what they answer.
-use crate::place;
+// The row for a SAS address and LUN, and the row for four OS bytes: what codes 27 and 28 look up, and what they answer (document 01,
+// "Adapter file", and codes 27 and 28).
+use rows::place;
 ghost use mathlib.Core.Path.{_≡_};
 ghost use Prim.Native.Nat.{_+_, _<_, _≤_};
 ghost use lib.ListN.{length};
 ghost use Rattle.laws.specs.Splice.{splice};
 ghost use Rattle.wire.specs.Same.{sameBytes};
 ghost use Rattle.rows.specs.Row.{rowsSize, rowsOf, rowAt, sasIndex, osIndex};
 
 // Row i has this SAS address and LUN. The last byte of the address, which seldom is the same, is compared first.
 fn has_sas(rows: &[u8], i: usize, sas: &[u8]) -> bool

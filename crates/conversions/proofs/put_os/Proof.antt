@@ -1,8 +1,8 @@
--- `rows::find::put_os` meets its contract. Assumes nothing.
+-- `conversions::put_os` meets its contract. Assumes nothing.
 use Rattle.rows.proofs.ReadLaws.{os-put}
 use borrow.Author.Needs.{needs}
-use Rattle.rows.proofs.find.put_os.Statement.{statement}
-use Rattle.rows.proofs.find.put_os.Tie as tie
+use Rattle.conversions.proofs.put_os.Statement.{statement}
+use Rattle.conversions.proofs.put_os.Tie as tie
 
 pub put-os-spec : {M : Type 1} → statement M
 put-os-spec =
