@@ -80,5 +80,5 @@ pub extern "C" fn ascheknopf_run_both(
 pub extern "C" fn ascheknopf_tally(lines: &[u8], totals: &mut [u8]) -> u32
     ensures { λ r. ⌜ wrote r (now (totals .exit)) ≡ tallied (now (lines .entry)) (now (totals .entry)) ⌝ }
 {
-    tally::write_tally(lines, totals)
+    tally_record::write_tally(lines, totals)
 }

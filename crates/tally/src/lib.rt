@@ -1,7 +1,4 @@
 // The closing tally of a session (W-206): a kind for each request's line, by the two numbers that it shows, and how many lines of each kind there are.
-mod record;
-
-pub use record::write_tally;
 ghost use mathlib.Core.Path.{_≡_};
 ghost use Prim.Native.Nat.{_+_, _<_};
 ghost use Rattle.tally.specs.Kinds.{isGranted, isDenied, isShort, isOtherwise};

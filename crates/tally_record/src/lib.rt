@@ -1,15 +1,15 @@
-// The tally of a record, which has a line of 8 bytes for each request of a run.
-use crate::Line;
-use crate::Totals;
-use crate::count;
-use crate::none;
+// The tally of a record, which has a line of 8 bytes for each request of a run (W-206).
+use tally::Line;
+use tally::Totals;
+use tally::count;
+use tally::none;
 ghost use mathlib.Core.Path.{_≡_};
 ghost use Prim.Native.Nat.{_+_, _*_, _≤_};
 ghost use lib.ListN.{length};
 ghost use Rattle.laws.specs.Splice.{splice};
 ghost use Rattle.wire.specs.Number.{bytes};
 ghost use Rattle.tally.specs.Totals.{tallyOf};
 ghost use Rattle.tally.specs.Record.{lineAt, linesIn, refusedBytes, totalsBytes, wrote, tallied};
 
 // The bytes of five totals.
 const TOTALS_SIZE: usize = 40;

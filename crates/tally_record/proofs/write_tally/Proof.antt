@@ -1,8 +1,8 @@
--- `tally::record::write_tally` meets its contract. Assumes nothing.
+-- `tally_record::write_tally` meets its contract. Assumes nothing.
 use Rattle.tally.proofs.RecordLaws.{tally-short, tally-wrote}
 use borrow.Author.Needs.{needs}
-use Rattle.tally.proofs.record.write_tally.Statement.{statement}
-use Rattle.tally.proofs.record.write_tally.Tie as tie
+use Rattle.tally_record.proofs.write_tally.Statement.{statement}
+use Rattle.tally_record.proofs.write_tally.Tie as tie
 
 pub write-tally-spec : {M : Type 1} → statement M
 write-tally-spec =

@@ -1,8 +1,8 @@
--- `tally::record::write_totals` meets its contract. Assumes nothing.
+-- `tally_record::write_totals` meets its contract. Assumes nothing.
 use Rattle.tally.proofs.RecordLaws.{two-totals}
 use borrow.Author.Needs.{needs}
-use Rattle.tally.proofs.record.write_totals.Statement.{statement}
-use Rattle.tally.proofs.record.write_totals.Tie as tie
+use Rattle.tally_record.proofs.write_totals.Statement.{statement}
+use Rattle.tally_record.proofs.write_totals.Tie as tie
 
 pub write-totals-spec : {M : Type 1} → statement M
 write-totals-spec =

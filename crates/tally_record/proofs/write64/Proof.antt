@@ -1,8 +1,8 @@
--- `tally::record::write64` meets its contract. Assumes nothing.
+-- `tally_record::write64` meets its contract. Assumes nothing.
 use Rattle.tally.proofs.RecordLaws.{word64}
 use borrow.Author.Needs.{needs}
-use Rattle.tally.proofs.record.write64.Statement.{statement}
-use Rattle.tally.proofs.record.write64.Tie as tie
+use Rattle.tally_record.proofs.write64.Statement.{statement}
+use Rattle.tally_record.proofs.write64.Tie as tie
 
 pub write64-spec : {M : Type 1} → statement M
 write64-spec =

@@ -1,8 +1,8 @@
--- `tally::record::write_refused` meets its contract. Assumes nothing.
+-- `tally_record::write_refused` meets its contract. Assumes nothing.
 use Rattle.tally.proofs.RecordLaws.{two-totals}
 use borrow.Author.Needs.{needs}
-use Rattle.tally.proofs.record.write_refused.Statement.{statement}
-use Rattle.tally.proofs.record.write_refused.Tie as tie
+use Rattle.tally_record.proofs.write_refused.Statement.{statement}
+use Rattle.tally_record.proofs.write_refused.Tie as tie
 
 pub write-refused-spec : {M : Type 1} → statement M
 write-refused-spec =
