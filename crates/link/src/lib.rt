@@ -1,8 +1,5 @@
 // The rate that a phy and the device attached to it agree on, a link reset, and a phy that is disabled (document 01, "Link
 // rule"; W-205).
-mod all;
-
-pub use all::all_negotiated;
 use phy::Phy;
 ghost use mathlib.Core.Path.{_≡_};
 ghost use Rattle.link.specs.Rule.{inBoth, ratesRule, plainRule, waitingRate, ruleOf, counted, reset, disabled, negotiatedHolds};

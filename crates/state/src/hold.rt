@@ -40,7 +40,7 @@ fn tables_hold(tables: &[u8]) -> bool
     ensures { λ r. ⌜ r ≡ tablesHold (tablesOf (now (tables .entry))) ⌝ }
 {
     rules::all_fields_hold(tables)
-        & link::all_negotiated(tables)
+        & negotiated::all_negotiated(tables)
         & rows_apart(tables)
         & rules::zero_past(tables)
 }

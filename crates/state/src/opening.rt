@@ -47,7 +47,7 @@ fn tables_number(tables: &[u8], size: usize) -> u32
     requires { ⌜ FewPhys (tablesOf (now tables)) × FewRows (tablesOf (now tables)) ⌝ }
     ensures { λ r. ⌜ r ≡ tablesNumber (tablesOf (now (tables .entry))) size ⌝ }
 {
-    if link::all_negotiated(tables) {
+    if negotiated::all_negotiated(tables) {
         if rows_apart(tables) {
             if disks_size(tables) == size {
                 return 0;

@@ -1,13 +1,13 @@
--- `link::all::phys_negotiated` meets its contract. Assumes nothing.
+-- `negotiated::phys_negotiated` meets its contract. Assumes nothing.
 use mathlib.Core.Path.{_≡_}
 use mathlib.Core.Bool.{true}
 use Prim.Native.Nat.{ℕ, _-_, _≤_}
 use Rattle.laws.specs.All.{allTo, all-loop}
 use Rattle.adapter.specs.Adapter.{phyIn}
 use Rattle.tables.specs.Tables.{tablesOf}
 use Rattle.link.specs.Rule.{negotiatedHolds}
-use Rattle.link.proofs.all.phys_negotiated.Statement.{statement}
-use Rattle.link.proofs.all.phys_negotiated.Tie as tie
+use Rattle.negotiated.proofs.phys_negotiated.Statement.{statement}
+use Rattle.negotiated.proofs.phys_negotiated.Tie as tie
 
 abbrev Inv-loop : tie.InvT-loop
 Inv-loop tables p k₀ k = (k ≤ p) × (allTo (λ (n : ℕ). negotiatedHolds (phyIn (tablesOf tables) n)) k ≡ true)

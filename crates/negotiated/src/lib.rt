@@ -1,5 +1,5 @@
-// The rule on the negotiated rate, of every phy of the tables that the caller lends.
-use crate::negotiated_holds;
+// The rule on the negotiated rate (document 01, "Field rules"), of every phy of the tables that the caller lends.
+use link::negotiated_holds;
 use phy::PhyIdentifier;
 ghost use mathlib.Core.Path.{_≡_};
 ghost use Prim.Native.Nat.{ℕ, _<_, _≤_};
