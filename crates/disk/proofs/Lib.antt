@@ -3,4 +3,4 @@ pub mod StoresLaws
 pub mod WaysLaws
 pub mod Laws
 pub mod StarredLaws
-pub mod MadeLaws
+pub mod AskedLaws

@@ -109,7 +109,7 @@ fn ask(disk: &mut [u8], body: &mut [u8]) -> u32
     requires { ⌜ (length (now disk) ≡ 8192) × (length (now body) ≡ 8704) ⌝ }
 {
     if wire::read32(body, 40) <= 8568 {
-        return disk::command(disk, body);
+        return disk_command::command(disk, body);
     }
     999
 }

@@ -29,10 +29,7 @@ fn reaches(phy: Phy, rate: u8, destination: &[u8]) -> bool
     ensures { λ r. ⌜ r ≡ connected phy rate (now (destination .entry)) ⌝ }
 {
     let negotiated = phy.negotiated();
-    phy.is_sata()
-        & fields::is_rate(negotiated)
-        & (rate <= negotiated)
-        & phy.attached_is(destination)
+    phy.is_sata() & fields::is_rate(negotiated) & (rate <= negotiated) & phy.attached_is(destination)
 }
 
 fn is_connected(tables: &[u8], n: PhyIdentifier, body: &[u8]) -> bool
@@ -56,7 +53,7 @@ fn on_disk(medium: &mut [u8], n: PhyIdentifier, body: &mut [u8]) -> u32
     ensures { λ code. ⌜ passes code (now (medium .exit)) (now (body .exit)) ≡ onDisk (now (medium .entry)) (n .0) (now (body .entry)) ⌝ }
 {
     let from = 8192 * n.0 as usize;
-    disk::command(&mut medium[from..from + 8192], body)
+    disk_command::command(&mut medium[from..from + 8192], body)
 }
 
 fn connect(tables: &[u8], medium: &mut [u8], body: &mut [u8], n: PhyIdentifier) -> u32

@@ -1,5 +1,5 @@
 -- `disk::fis::ata_command` meets its contract. Assumes nothing.
-use Rattle.disk.proofs.MadeLaws.{asked-by}
+use Rattle.disk.proofs.AskedLaws.{asked-by}
 use borrow.Author.Needs.{needs}
 use Rattle.disk.proofs.fis.ata_command.Statement.{statement}
 use Rattle.disk.proofs.fis.ata_command.Tie as tie

@@ -1,8 +1,8 @@
--- `disk::reply::put_identify` meets its contract. Assumes nothing.
-use Rattle.disk.proofs.MadeLaws.{identify-by}
+-- `disk_command::reply::put_identify` meets its contract. Assumes nothing.
+use Rattle.disk_command.proofs.MadeLaws.{identify-by}
 use borrow.Author.Needs.{needs}
-use Rattle.disk.proofs.reply.put_identify.Statement.{statement}
-use Rattle.disk.proofs.reply.put_identify.Tie as tie
+use Rattle.disk_command.proofs.reply.put_identify.Statement.{statement}
+use Rattle.disk_command.proofs.reply.put_identify.Tie as tie
 
 pub put-identify-spec : {M : Type 1} → statement M
 put-identify-spec =

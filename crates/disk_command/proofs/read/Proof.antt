@@ -1,8 +1,8 @@
--- `disk::read` meets its contract. Assumes nothing.
-use Rattle.disk.proofs.MadeLaws.{data-by}
+-- `disk_command::read` meets its contract. Assumes nothing.
+use Rattle.disk_command.proofs.MadeLaws.{data-by}
 use borrow.Author.Needs.{needs}
-use Rattle.disk.proofs.read.Statement.{statement}
-use Rattle.disk.proofs.read.Tie as tie
+use Rattle.disk_command.proofs.read.Statement.{statement}
+use Rattle.disk_command.proofs.read.Tie as tie
 
 pub read-spec : {M : Type 1} → statement M
 read-spec =

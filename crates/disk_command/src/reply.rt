@@ -1,12 +1,12 @@
 // What a reply holds: the Status structure, and the data of ECh.
-use crate::Answer;
-use crate::AtaCommand;
+use disk::Answer;
+use disk::AtaCommand;
 ghost use mathlib.Core.Path.{_≡_};
 ghost use Prim.Native.Nat.{_+_, _≤_};
 ghost use lib.ListN.{length};
 ghost use Rattle.laws.specs.Splice.{splice};
 ghost use Rattle.stp.specs.Body.{dataPlace};
 ghost use Rattle.disk.specs.Disk.{byteTwelve, statusOf, withStatus, identify};
 
 // Byte 12 of the status FIS: E5h reports the disk active there, and another command its count.
 fn byte_twelve(command: u8, byte: u8) -> u8

@@ -1,10 +1,10 @@
--- `disk::reply::status` meets its contract. Assumes nothing.
+-- `disk_command::reply::status` meets its contract. Assumes nothing.
 use native.Mathlib.Omega.{arith}
 use lib.ListN.{length-set}
 use Rattle.disk.proofs.StoresLaws.{status-built}
 use borrow.Author.Needs.{needs}
-use Rattle.disk.proofs.reply.status.Statement.{statement}
-use Rattle.disk.proofs.reply.status.Tie as tie
+use Rattle.disk_command.proofs.reply.status.Statement.{statement}
+use Rattle.disk_command.proofs.reply.status.Tie as tie
 
 pub status-spec : {M : Type 1} → statement M
 status-spec =

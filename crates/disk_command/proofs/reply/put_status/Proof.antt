@@ -1,8 +1,8 @@
--- `disk::reply::put_status` meets its contract. Assumes nothing.
-use Rattle.disk.proofs.MadeLaws.{status-by}
+-- `disk_command::reply::put_status` meets its contract. Assumes nothing.
+use Rattle.disk_command.proofs.MadeLaws.{status-by}
 use borrow.Author.Needs.{needs}
-use Rattle.disk.proofs.reply.put_status.Statement.{statement}
-use Rattle.disk.proofs.reply.put_status.Tie as tie
+use Rattle.disk_command.proofs.reply.put_status.Statement.{statement}
+use Rattle.disk_command.proofs.reply.put_status.Tie as tie
 
 pub put-status-spec : {M : Type 1} → statement M
 put-status-spec =

@@ -1,10 +1,10 @@
--- `disk::act` meets its contract. Assumes nothing.
+-- `disk_command::act` meets its contract. Assumes nothing.
 use Rattle.laws.specs.Choice.{picks}
 use Rattle.disk.specs.Disk.{acted}
 use Rattle.disk.proofs.StoresLaws.{performs-by, rooms}
 use borrow.Author.Needs.{needs}
-use Rattle.disk.proofs.act.Statement.{statement}
-use Rattle.disk.proofs.act.Tie as tie
+use Rattle.disk_command.proofs.act.Statement.{statement}
+use Rattle.disk_command.proofs.act.Tie as tie
 
 pub act-spec : {M : Type 1} → statement M
 unfolding acted

@@ -1,22 +1,14 @@
 -- What each part of a command leaves, from what the parts that it calls leave. Assumes nothing.
 use mathlib.Core.Path.{_≡_, _∙_}
-use mathlib.Core.Bool.{Bool}
 use mathlib.Core.List.{List}
-use Prim.Native.Nat.{ℕ, _/_, _%_}
-use lib.Dec.{eqb}
+use Prim.Native.Nat.{ℕ}
 use lib.ListN.{replicate}
 use Rattle.laws.specs.Splice.{splice}
 use Rattle.wire.specs.Number.{bytes}
-use Rattle.stp.specs.Body.{fis, command, dataLength, statusPlace}
+use Rattle.stp.specs.Body.{fis, statusPlace}
 use Rattle.disk.specs.declared.Answer.{Answer}
 use Rattle.disk.specs.declared.AtaCommand.{AtaCommand}
-use Rattle.disk.specs.Disk.{lba, countOf, ataCommand, answerTo, identify, byteTwelve, statusOf, withStatus, Performed, acted, performed}
-
--- what was asked
-pub asked-by : (body : List ℕ) (addressed : Bool) (l n m : ℕ) → addressed ≡ eqb (fis body 7 / 64 % 2) 1 → l ≡ lba body → n ≡ countOf (fis body 12) → m ≡ dataLength body
-    → _≡_ {A = AtaCommand} (record { command = command body; addressed = addressed; lba = l; count = n; «data_length» = m }) (ataCommand body)
-unfolding ataCommand
-asked-by body addressed l n m p q r s = rw (p, q, r, s)
+use Rattle.disk.specs.Disk.{ataCommand, answerTo, identify, byteTwelve, statusOf, withStatus, Performed, acted, performed}
 
 -- the status, and data behind it
 pub status-by : (body s d : List ℕ) (twelve : ℕ) (r : AtaCommand) (a : Answer) → twelve ≡ byteTwelve (r .command) (fis body 12) → s ≡ statusOf body twelve a
