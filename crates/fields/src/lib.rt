@@ -14,32 +14,7 @@ ghost use mathlib.Core.Bool.{_&&_};
 ghost use lib.Dec.{leb};
 ghost use Rattle.wire.specs.Same.{allZero};
 ghost use Rattle.phy.specs.Entity.{isSata};
-ghost use Rattle.fields.specs.Rules.{isRate, inRange, identifyHolds, rangeHolds, ratesHold, emptyHolds, deviceHolds, attachedHold, heldSignatureHolds, spinupAllowed, fieldsHold};
-
-// A rate code: 1.5 or 3.0 Gb/s.
-pub fn is_rate(code: u8) -> bool
-    ensures { λ r. ⌜ r ≡ isRate code ⌝ }
-{
-    (code == codes::LINK_RATE_1_5) | (code == codes::LINK_RATE_3_0)
-}
-
-fn in_range(least: u8, minimum: u8, maximum: u8, most: u8) -> bool
-    ensures { λ r. ⌜ r ≡ inRange least minimum maximum most ⌝ }
-{
-    is_rate(minimum)
-        & is_rate(maximum)
-        & (least <= minimum)
-        & (minimum <= maximum)
-        & (maximum <= most)
-}
-
-// The two are programmed rates that the phy's hardware allows.
-pub fn range_holds(phy: Phy, minimum: u8, maximum: u8) -> bool
-    ensures { λ r. ⌜ r ≡ rangeHolds phy minimum maximum ⌝ }
-{
-    let e = phy.entity;
-    in_range(e[MINIMUM] % 16, minimum, maximum, e[MAXIMUM] % 16)
-}
+ghost use Rattle.fields.specs.Rules.{isRate, identifyHolds, ratesHold, emptyHolds, deviceHolds, attachedHold, heldSignatureHolds, spinupAllowed, fieldsHold};
 
 fn identify_holds(phy: Phy, n: PhyIdentifier, p: u8) -> bool
     ensures { λ r. ⌜ r ≡ identifyHolds phy n p ⌝ }

@@ -42,7 +42,7 @@ fn plain_rule(phy: Phy) -> u8
 fn waiting_rate(rate: u8) -> u8
     ensures { λ r. ⌜ r ≡ waitingRate rate ⌝ }
 {
-    if fields::is_rate(rate) {
+    if rates::is_rate(rate) {
         return codes::SATA_SPINUP_HOLD;
     }
     rate

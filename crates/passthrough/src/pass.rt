@@ -21,7 +21,7 @@ const COMMAND_FIS: u8 = 0x27;
 fn is_form(type_byte: u8, rate: u8) -> bool
     ensures { λ r. ⌜ r ≡ formHolds «type_byte» rate ⌝ }
 {
-    (type_byte == COMMAND_FIS) & ((rate == 0) | fields::is_rate(rate))
+    (type_byte == COMMAND_FIS) & ((rate == 0) | rates::is_rate(rate))
 }
 
 // The phy's link is up at the connection rate, and the SATA device at its end has the destination's address.
@@ -29,7 +29,7 @@ fn reaches(phy: Phy, rate: u8, destination: &[u8]) -> bool
     ensures { λ r. ⌜ r ≡ connected phy rate (now (destination .entry)) ⌝ }
 {
     let negotiated = phy.negotiated();
-    phy.is_sata() & fields::is_rate(negotiated) & (rate <= negotiated) & phy.attached_is(destination)
+    phy.is_sata() & rates::is_rate(negotiated) & (rate <= negotiated) & phy.attached_is(destination)
 }
 
 fn is_connected(tables: &[u8], n: PhyIdentifier, body: &[u8]) -> bool

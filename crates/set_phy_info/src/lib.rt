@@ -36,7 +36,7 @@ fn phy_setting(body: &[u8]) -> PhySetting
 fn is_programmable(byte: u8) -> bool
     ensures { λ r. ⌜ r ≡ programmable byte ⌝ }
 {
-    (byte == 0) | fields::is_rate(byte)
+    (byte == 0) | rates::is_rate(byte)
 }
 
 // The rate that a programmed byte leaves.
@@ -60,7 +60,7 @@ fn rates_allowed(phy: Phy, s: PhySetting, minimum: u8, maximum: u8) -> bool
 {
     is_programmable(s.minimum)
         & is_programmable(s.maximum)
-        & fields::range_holds(phy, minimum, maximum)
+        & rates::range_holds(phy, minimum, maximum)
 }
 
 // Disables the phy, or resets its link.

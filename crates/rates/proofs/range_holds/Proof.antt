@@ -1,9 +1,9 @@
--- `fields::range_holds` meets its contract. Assumes nothing.
+-- `rates::range_holds` meets its contract. Assumes nothing.
 use Rattle.fields.specs.Rules.{rangeHolds}
 use Rattle.phy.specs.Entity.{hardwareMinimum, hardwareMaximum}
 use borrow.Author.Needs.{needs}
-use Rattle.fields.proofs.range_holds.Statement.{statement}
-use Rattle.fields.proofs.range_holds.Tie as tie
+use Rattle.rates.proofs.range_holds.Statement.{statement}
+use Rattle.rates.proofs.range_holds.Tie as tie
 
 pub range-holds-spec : {M : Type 1} → statement M
 unfolding rangeHolds hardwareMinimum hardwareMaximum
