@@ -10,6 +10,7 @@
    text     the level text, such as "CSMI=Full;", without a final zero byte
    file     the adapter file; its byte 0 is the number of phys, 1 to 32 (the program's limit of 7 is not the library's)
    medium   the disks of the phys, 8,192 bytes each
+   stage    where firmware is staged, ASCHEKNOPF_STAGE_SIZE bytes: only a granted validation of code 4 writes it, and no request reads it
    state    what the adapter remembers between calls, ASCHEKNOPF_STATE_SIZE bytes, described below
    buffer   one request, which begins with the 28-byte SRB_IO_CONTROL of CSMI or with the 20-byte Linux header, and then its reply
    session  requests one after the other: for each a length of 4 bytes, then so many bytes; of both headers: 12 bytes, described below
@@ -30,7 +31,7 @@ extern "C" {
 
 /* The state. Every byte is named here, and every byte string of this size stands for a state, one that keeps the rules of document 01 or
    one that ascheknopf_request refuses with 107. It holds no pointers: it may be copied, stored and compared. */
-#define ASCHEKNOPF_STATE_SIZE 6181
+#define ASCHEKNOPF_STATE_SIZE 6190
 
 #define ASCHEKNOPF_LEVEL 0       /* 0 None, 1 Restricted, 2 Limited, 3 Full; any other value is refused */
 #define ASCHEKNOPF_PHY_COUNT 1   /* p, 1 to 32 */
@@ -97,22 +98,49 @@ extern "C" {
 #define ASCHEKNOPF_CONNECTOR_NAME 4   /* bConnector, 16 bytes */
 #define ASCHEKNOPF_CONNECTOR_LOCATION 20
 
+/* The firmware that code 4 staged. Its bytes are in the stage; the state has whether there is some, and its revisions. */
+#define ASCHEKNOPF_STAGED 6181           /* 1 if an image is staged, else 0; another value, or 0 with revisions that are not 0, is refused */
+#define ASCHEKNOPF_STAGED_REVISIONS 6182 /* four of 16 bits: major, minor, build, release */
+#define ASCHEKNOPF_STAGED_REVISIONS_SIZE 8
+
 /* Opens an adapter: the number of the opening. A state of another size is 107, before every other check, and stays as it was. Else 0 is
-   accepted, and the state is the level of the text and what the file holds; 101 text, 102 file length, 103 block check, 104 count or
-   field, 105 shared row and 106 medium length are refused, and the state is ASCHEKNOPF_STATE_SIZE zero bytes. What the state was before
-   is not looked at. The medium is only read. */
+   accepted, and the state is the level of the text and what the file holds, with nothing staged; 101 text, 102 file length, 103 block
+   check, 104 count or field, 105 shared row and 106 medium length are refused, and the state is ASCHEKNOPF_STATE_SIZE zero bytes. What the
+   state was before is not looked at. The medium is only read, and no stage is lent. */
 uint32_t ascheknopf_open(const uint8_t *text, size_t text_len,
                          const uint8_t *file, size_t file_len,
                          const uint8_t *medium, size_t medium_len,
                          uint8_t *state, size_t state_len);
 
+/* The stage. An image of firmware stands at its start; the bytes behind it are what they were. */
+#define ASCHEKNOPF_STAGE_SIZE 16384
+
 /* Handles one request: its number. 107 is a state of another size or one that breaks a rule, such as the zero state; 106 a medium that is
-   not 8,192 bytes for each phy; 100 a buffer under 28 bytes; they are tested in this order, and state, medium and buffer stay as they
-   were. Else it is 0: the buffer is the reply, with the return code in its bytes 20 to 23, and state and medium are what the request made
-   of them. They, and no others, are for the next request. */
+   not 8,192 bytes for each phy, and then a stage that is not ASCHEKNOPF_STAGE_SIZE bytes, whatever the request; 100 a buffer under 28
+   bytes; they are tested in this order, and state, medium, stage and buffer stay as they were. Else it is 0: the buffer is the reply, with
+   the return code in its bytes 20 to 23, and state, medium and stage are what the request made of them. They, and no others, are for the
+   next request. */
 uint32_t ascheknopf_request(uint8_t *state, size_t state_len,
                             uint8_t *medium, size_t medium_len,
+                            uint8_t *stage, size_t stage_len,
                             uint8_t *buffer, size_t buffer_len);
+
+/* The body of code 4, firmware download (6.4.4), which has the signature CSMIALL and needs Limited. Length counts the image too. */
+#define ASCHEKNOPF_DOWNLOAD_BUFFER_LENGTH 0 /* 4 bytes: of the image, 0 where none is handed in */
+#define ASCHEKNOPF_DOWNLOAD_FLAGS 4         /* 4 bytes; no flag but the one below is read */
+#define ASCHEKNOPF_DOWNLOAD_STATUS 40       /* 2 bytes; 0 with return code 0, and else as it was */
+#define ASCHEKNOPF_DOWNLOAD_SEVERITY 42     /* 2 bytes, the same */
+#define ASCHEKNOPF_DOWNLOAD_DATA 44         /* the image */
+#define ASCHEKNOPF_DOWNLOAD_VALIDATE 1
+
+/* With the flag ASCHEKNOPF_DOWNLOAD_VALIDATE it validates an image: 1 to 32 blocks of 512 bytes in the block form of the adapter file, each
+   with its check, numbered from 0. The first 8 bytes of the image are its revisions. It is copied to the start of the stage, whose rest
+   stays, and is staged, in the place of one that was. Without the flag, and with a length of 0, it commits what is staged: the revisions at
+   ASCHEKNOPF_CONTROLLER_FIRMWARE become those of the image, as code 2 then shows, and nothing is staged any more. The stage is not read.
+
+   Return code 3 is another length, with the flag and without; 1 an image with a wrong check, or a commit with nothing staged; 4 a level
+   that is too low. They are tested in this order: Length, which has to count the image, is 3; the level 4; the length of the image 3; and
+   last 1. With these the stage and what was staged stay. */
 
 /* The Linux header (IOCTL_HEADER, 4.2.3.1): 18 bytes, and two that are ignored. */
 #define ASCHEKNOPF_LINUX_SIZE 20
@@ -123,12 +151,12 @@ uint32_t ascheknopf_request(uint8_t *state, size_t state_len,
 #define ASCHEKNOPF_LINUX_DIRECTION 16  /* Direction, 2 bytes: 0 read, 1 write; any other is return code 3 */
 
 /* The control code of a Linux request is document 01's number, which is handed in beside the buffer. Section 10 has for ioctl:
-     1  get driver info        0xCC770001        25  STP passthrough      0xCC770019
-     2  get controller config  0xCC770002        26  get SATA signature   0xCC770020
-     3  get controller status  0xCC770003        27  get SCSI address     0xCC770021
+     1  get driver info        0xCC770001        22  get link errors      0xCC770016
+     2  get controller config  0xCC770002        25  STP passthrough      0xCC770019
+     3  get controller status  0xCC770003        26  get SATA signature   0xCC770020
+     4  firmware download      0xCC770004        27  get SCSI address     0xCC770021
      20 get phy info           0xCC770014        28  get device address   0xCC770022
      21 set phy info           0xCC770015        30  get connector info   0xCC770024
-     22 get link errors        0xCC770016
    These numbers themselves are unknown codes here (return code 2), and the last four do not end in document 01's. */
 
 /* Handles one request under the Linux header, as ascheknopf_request does one under the first. Its control code is handed in beside the
@@ -136,6 +164,7 @@ uint32_t ascheknopf_request(uint8_t *state, size_t state_len,
    no signature, the level is taken for Full, and the return code is in bytes 8 to 11 of the reply. */
 uint32_t ascheknopf_request_linux(uint8_t *state, size_t state_len,
                                   uint8_t *medium, size_t medium_len,
+                                  uint8_t *stage, size_t stage_len,
                                   uint32_t control,
                                   uint8_t *buffer, size_t buffer_len);
 
@@ -143,15 +172,17 @@ uint32_t ascheknopf_request_linux(uint8_t *state, size_t state_len,
 #define ASCHEKNOPF_NO_CODE 0xFFFFFFFFu
 
 /* Opens the adapter and handles the requests of the session in order, as the two calls would one by one; the state stays inside. A reply
-   stands in its request's place, the lengths stay, and the commands that write do so in the medium. The line of a request is 0 and its
-   return code. After a refused opening the zero state goes on: every request, a short one too, gets 107; else one under 28 bytes gets 100;
-   both with ASCHEKNOPF_NO_CODE, and request and medium stay.
+   stands in its request's place, the lengths stay, the commands that write do so in the medium, and firmware is staged in the stage, which
+   is handed on from request to request as the medium is. The line of a request is 0 and its return code. After a refused opening the zero
+   state goes on: every request, a short one too, gets 107; else with a stage of another size every one gets 106, and one under 28 bytes
+   gets 100; these with ASCHEKNOPF_NO_CODE, and request, medium and stage stay.
 
    It ends at the session's end, at a request that is cut short, or where the record has no room for another line; that request, what
    stands behind it and the rest of the record stay as they were. A request may have any length. Gives the number of requests handled. */
 size_t ascheknopf_run(const uint8_t *text, size_t text_len,
                       const uint8_t *file, size_t file_len,
                       uint8_t *medium, size_t medium_len,
+                      uint8_t *stage, size_t stage_len,
                       uint8_t *session, size_t session_len,
                       uint8_t *record, size_t record_len);
 
@@ -171,6 +202,7 @@ size_t ascheknopf_run(const uint8_t *text, size_t text_len,
 size_t ascheknopf_run_both(const uint8_t *text, size_t text_len,
                            const uint8_t *file, size_t file_len,
                            uint8_t *medium, size_t medium_len,
+                           uint8_t *stage, size_t stage_len,
                            uint8_t *session, size_t session_len,
                            uint8_t *record, size_t record_len);
 

@@ -10,10 +10,11 @@
 /* The first header's size, and where its return code is; of the Linux header include/ascheknopf.h says it. */
 enum { FIRST = 28, FIRST_CODE = 20, LINUX = ASCHEKNOPF_LINUX_SIZE };
 enum { DATA_READ = 0, DATA_WRITE = 1 };
-enum { SECTOR = 512, DISK = 8192, LARGEST = 2052, MOST = 32 };
+enum { SECTOR = 512, BLOCK = 512, DISK = 8192, LARGEST = 2052, MOST = 32 };
 
 /* Everything that the simulator works on is ours; the record too, a line for each request of either header. */
-static uint8_t file[69 * 512], medium[32 * DISK], state[ASCHEKNOPF_STATE_SIZE], buffer[FIRST + LARGEST], record[8 * MOST];
+static uint8_t file[69 * 512], medium[32 * DISK], stage[ASCHEKNOPF_STAGE_SIZE], state[ASCHEKNOPF_STATE_SIZE];
+static uint8_t buffer[FIRST + LARGEST], record[8 * MOST];
 static size_t file_len, medium_len, record_len;
 
 static uint32_t word(const uint8_t *at)
@@ -32,7 +33,7 @@ static const char *number_in_words(uint32_t number)
     switch (number) {
     case 0: return "accepted";
     case 100: return "a buffer shorter than its header";
-    case 106: return "a wrong medium length";
+    case 106: return "a wrong medium or stage length";
     case 107: return "no sound state";
     default: return "see ascheknopf_open";
     }
@@ -42,6 +43,7 @@ static const char *code_in_words(uint32_t code)
 {
     switch (code) {
     case 0: return "success";
+    case 1: return "failed";
     case 2: return "bad control code";
     case 3: return "invalid parameter";
     case 4: return "denied at this level";
@@ -122,11 +124,11 @@ static const uint8_t *send_first(const struct request *r)
 {
     memset(buffer, 0, FIRST);
     put_word(buffer, FIRST);
-    memcpy(buffer + 4, r->control <= 3 ? "CSMIALL" : "CSMISAS", 8);
+    memcpy(buffer + 4, r->control <= 4 ? "CSMIALL" : "CSMISAS", 8);
     put_word(buffer + 16, r->control);
     put_word(buffer + 24, (uint32_t)r->size);
     memcpy(buffer + FIRST, r->body, r->size);
-    uint32_t number = ascheknopf_request(state, sizeof state, medium, medium_len, buffer, FIRST + r->size);
+    uint32_t number = ascheknopf_request(state, sizeof state, medium, medium_len, stage, sizeof stage, buffer, FIRST + r->size);
     return reply_body("first header", number, FIRST_CODE, FIRST);
 }
 
@@ -137,7 +139,8 @@ static const uint8_t *send_linux(const struct request *r)
     put_word(buffer + ASCHEKNOPF_LINUX_LENGTH, LINUX + (uint32_t)r->size);
     buffer[ASCHEKNOPF_LINUX_DIRECTION] = r->direction;
     memcpy(buffer + LINUX, r->body, r->size);
-    uint32_t number = ascheknopf_request_linux(state, sizeof state, medium, medium_len, r->control, buffer, LINUX + r->size);
+    uint32_t number = ascheknopf_request_linux(state, sizeof state, medium, medium_len, stage, sizeof stage, r->control,
+                                               buffer, LINUX + r->size);
     return reply_body("Linux header", number, ASCHEKNOPF_LINUX_RETURN_CODE, LINUX);
 }
 
@@ -149,15 +152,20 @@ static void send_both(const struct request *r, void (*show)(const uint8_t *reply
     show(send_linux(r));
 }
 
+/* Four numbers of 16 bits. */
+static void print_revisions(const uint8_t *at)
+{
+    for (int i = 0; i < 8; i += 2)
+        printf("%c%u", i == 0 ? ' ' : '.', at[i] | at[i + 1] << 8u);
+    printf("\n");
+}
+
 static void show_controller(const uint8_t *reply)
 {
     if (!reply)
         return;
     printf("        serial number %.81s, firmware", (const char *)reply + ASCHEKNOPF_CONTROLLER_SERIAL);
-    const uint8_t *firmware = reply + ASCHEKNOPF_CONTROLLER_FIRMWARE;
-    for (int i = 0; i < 8; i += 2)
-        printf("%c%u", i == 0 ? ' ' : '.', firmware[i] | firmware[i + 1] << 8u);
-    printf("\n");
+    print_revisions(reply + ASCHEKNOPF_CONTROLLER_FIRMWARE);
 }
 
 static void show_status(const uint8_t *reply)
@@ -194,7 +202,7 @@ static void show_phys(const uint8_t *reply)
     }
 }
 
-/* State and medium are ours to look at: what the adapter now holds of phy 0, and what is on its disk. */
+/* State and medium are ours to look at: what the adapter now holds of phy 0, what is on its disk, and what firmware is staged. */
 static void show_link(const uint8_t *reply)
 {
     (void)reply;
@@ -205,6 +213,14 @@ static void show_disk(const uint8_t *reply)
 {
     (void)reply;
     printf("        on the disk: %.16s\n", (const char *)medium + 3 * SECTOR);
+}
+
+static void show_staged(const uint8_t *reply)
+{
+    (void)reply;
+    printf("        %s", state[ASCHEKNOPF_STAGED] ? "staged:" : "nothing staged\n");
+    if (state[ASCHEKNOPF_STAGED])
+        print_revisions(state + ASCHEKNOPF_STAGED_REVISIONS);
 }
 
 static void show_data(const uint8_t *reply)
@@ -223,6 +239,40 @@ static struct request sector(const char *what, uint8_t direction, uint8_t comman
     put_word(r.body + 40, SECTOR);
     memcpy(r.body + 136, data, strlen(data));
     return r;
+}
+
+/* Firmware of one block: revisions 2.0.7.1, a text, and the check, which is the sum of the words before it, the block's number, 0, and 1. */
+static void make_image(uint8_t *image)
+{
+    const uint8_t revisions[8] = {2, 0, 0, 0, 7, 0, 1, 0};
+    uint32_t sum = 0 + 1;
+    memset(image, 0, BLOCK);
+    memcpy(image, revisions, 8);
+    memcpy(image + 8, "lab firmware", 12);
+    for (int at = 0; at < BLOCK - 4; at += 4)
+        sum += word(image + at);
+    put_word(image + BLOCK - 4, sum);
+}
+
+/* Firmware download: an image is validated and staged; without one, what is staged is made current. */
+static struct request download(const char *what, const uint8_t *image, size_t length)
+{
+    struct request r = {what, 4, DATA_WRITE, ASCHEKNOPF_DOWNLOAD_DATA + length, {0}};
+    put_word(r.body + ASCHEKNOPF_DOWNLOAD_BUFFER_LENGTH, (uint32_t)length);
+    put_word(r.body + ASCHEKNOPF_DOWNLOAD_FLAGS, length > 0 ? ASCHEKNOPF_DOWNLOAD_VALIDATE : 0);
+    memcpy(r.body + ASCHEKNOPF_DOWNLOAD_DATA, image, length);
+    return r;
+}
+
+static void update(void)
+{
+    uint8_t image[BLOCK];
+    make_image(image);
+    const struct request validate = download("validate firmware 2.0.7.1", image, BLOCK), commit = download("commit firmware", image, 0);
+    const struct request controller = {"controller configuration, after the update", 2, DATA_READ, 176, {0}};
+    send_both(&validate, show_staged);
+    send_both(&commit, show_staged);
+    send_both(&controller, show_controller);
 }
 
 static unsigned long long total(const uint8_t *at)
@@ -264,6 +314,7 @@ static void console(const char *text)
     send_both(&set_phy_info, show_link);
     send_both(&write, show_disk);
     send_both(&read, show_data);
+    update();
     send_both(&ioctl, show_phys);
     printf("the level is still %u\n", state[ASCHEKNOPF_LEVEL]);
     tally();

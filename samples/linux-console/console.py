@@ -7,22 +7,25 @@ import ctypes
 import struct
 import sys
 
-STATE_SIZE, TOTALS_SIZE = 6181, 40
+STATE_SIZE, STAGE_SIZE, TOTALS_SIZE = 6190, 16384, 40
 NO_CODE = 0xFFFFFFFF
 LEVEL, PHY_COUNT = 0, 1
 FIRST, FIRST_CODE = 28, 20  # sizes of the two headers, and where the return code is in each
 LINUX, LINUX_CODE = 20, 8
 DATA_READ, DATA_WRITE = 0, 1
-SECTOR, DISK = 512, 8192
+SECTOR, BLOCK, DISK = 512, 512, 8192
+STAGED, STAGED_REVISIONS = 6181, 6182  # what is staged, in the state
+VALIDATE = 1
 
 NUMBERS = {
     0: "accepted",
     100: "a buffer shorter than its header",
-    106: "a wrong medium length",
+    106: "a wrong medium or stage length",
     107: "no sound state",
 }
 CODES = {
     0: "success",
+    1: "failed",
     2: "bad control code",
     3: "invalid parameter",
     4: "denied at this level",
@@ -76,7 +79,7 @@ class Request:
         """HeaderLength, the signature, the control code, and a Length that does not count the header."""
         header = bytearray(FIRST)
         header[0] = FIRST
-        header[4:11] = b"CSMIALL" if self.control <= 3 else b"CSMISAS"
+        header[4:11] = b"CSMIALL" if self.control <= 4 else b"CSMISAS"
         header[16:20] = self.control.to_bytes(4, "little")
         header[24:28] = len(self.body).to_bytes(4, "little")
         return header + self.body
@@ -105,7 +108,7 @@ class Adapter:
 
     def __init__(self, library, file, medium):
         self.library, self.file, self.medium = library, file, medium
-        self.state, self.record = bytearray(STATE_SIZE), bytearray()
+        self.stage, self.state, self.record = bytearray(STAGE_SIZE), bytearray(STATE_SIZE), bytearray()
 
     def open(self, text):
         """The number of the opening."""
@@ -115,7 +118,9 @@ class Adapter:
 
     def send_first(self, request):
         buffer = request.first()
-        number = self.library.ascheknopf_request(*lent(self.state), *lent(self.medium), *lent(buffer))
+        number = self.library.ascheknopf_request(
+            *lent(self.state), *lent(self.medium), *lent(self.stage), *lent(buffer)
+        )
         self.keep(number, word(buffer, FIRST_CODE))
         return reply_body("first header", number, buffer, FIRST_CODE, FIRST)
 
@@ -123,7 +128,7 @@ class Adapter:
         """No signature, and no level is asked for."""
         buffer = request.linux()
         number = self.library.ascheknopf_request_linux(
-            *lent(self.state), *lent(self.medium), ctypes.c_uint32(request.control), *lent(buffer)
+            *lent(self.state), *lent(self.medium), *lent(self.stage), ctypes.c_uint32(request.control), *lent(buffer)
         )
         self.keep(number, word(buffer, LINUX_CODE))
         return reply_body("Linux header", number, buffer, LINUX_CODE, LINUX)
@@ -150,10 +155,14 @@ class Adapter:
         print(f"{requests} requests: {', '.join(f'{count} {kind}' for count, kind in zip(kinds, words))}")
 
 
+def revisions(data, at):
+    """Four numbers of 16 bits."""
+    return ".".join(str(half(data, at + 2 * i)) for i in range(4))
+
+
 def show_controller(adapter, reply):
     if reply:
-        firmware = ".".join(str(half(reply, at)) for at in (133, 135, 137, 139))
-        print(f"        serial number {text_at(reply, 52, 81)}, firmware {firmware}")
+        print(f"        serial number {text_at(reply, 52, 81)}, firmware {revisions(reply, 133)}")
 
 
 def show_status(adapter, reply):
@@ -187,6 +196,12 @@ def show_disk(adapter, reply):
     print(f"        on the disk: {text_at(adapter.medium, 3 * SECTOR, 16)}")
 
 
+def show_staged(adapter, reply):
+    """And so is what is staged."""
+    staged = f"staged: {revisions(adapter.state, STAGED_REVISIONS)}" if adapter.state[STAGED] else "nothing staged"
+    print(f"        {staged}")
+
+
 def show_data(adapter, reply):
     if reply:
         print(f"        status {reply[50]:02X}h, {word(reply, 132)} bytes, which begin: {text_at(reply, 136, 16)}")
@@ -203,6 +218,29 @@ def sector(adapter, what, direction, command, data):
     return Request(what, 25, direction, body)
 
 
+def make_image():
+    """Firmware of one block: revisions 2.0.7.1, a text, and the check, which is the sum of the words before it, the block's number, 0,
+    and 1."""
+    block = struct.pack("<4H12s", 2, 0, 7, 1, b"lab firmware").ljust(BLOCK - 4, b"\0")
+    check = (sum(struct.unpack("<127I", block)) + 0 + 1) % 2**32
+    return block + check.to_bytes(4, "little")
+
+
+def download(what, image):
+    """Firmware download: an image is validated and staged; without one, what is staged is made current."""
+    body = bytearray(44)
+    body[0:4] = len(image).to_bytes(4, "little")
+    body[4:8] = (VALIDATE if image else 0).to_bytes(4, "little")
+    return Request(what, 4, DATA_WRITE, body + image)
+
+
+def update(adapter):
+    adapter.send_both(download("validate firmware 2.0.7.1", make_image()), show_staged)
+    adapter.send_both(download("commit firmware", b""), show_staged)
+    after = Request("controller configuration, after the update", 2, DATA_READ, bytes(176))
+    adapter.send_both(after, show_controller)
+
+
 def console(adapter, text):
     number = adapter.open(text)
     print(f"open with {text.decode('ascii')} {number}, {number_in_words(number)}")
@@ -216,6 +254,7 @@ def console(adapter, text):
     adapter.send_both(set_phy_info, show_link)
     adapter.send_both(sector(adapter, "write sector 3", DATA_WRITE, 0x30, b"written"), show_disk)
     adapter.send_both(sector(adapter, "read sector 3", DATA_READ, 0x20, b""), show_data)
+    update(adapter)
     adapter.send_both(ioctl, show_phys)
     print(f"the level is still {adapter.state[LEVEL]}")
     adapter.tally()

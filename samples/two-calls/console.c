@@ -10,7 +10,8 @@
 enum { HEADER = 28, CODE = 20, SECTOR = 512, DISK = 8192, MOST = 16 };
 
 /* Everything that the simulator works on is ours; the record too, a line for each request since the opening. */
-static uint8_t file[69 * 512], medium[32 * DISK], state[ASCHEKNOPF_STATE_SIZE], buffer[HEADER + 2052], record[8 * MOST];
+static uint8_t file[69 * 512], medium[32 * DISK], stage[ASCHEKNOPF_STAGE_SIZE], state[ASCHEKNOPF_STATE_SIZE];
+static uint8_t buffer[HEADER + 2052], record[8 * MOST];
 static size_t file_len, medium_len, record_len;
 
 static uint32_t word(const uint8_t *at)
@@ -34,7 +35,7 @@ static const char *number_in_words(uint32_t number)
     case 103: return "a wrong block check";
     case 104: return "a wrong count or field";
     case 105: return "two rows that share an address";
-    case 106: return "a wrong medium length";
+    case 106: return "a wrong medium or stage length";
     default: return "no sound state";
     }
 }
@@ -105,7 +106,7 @@ static uint8_t *request(uint8_t code, size_t size)
 {
     memset(buffer, 0, sizeof buffer);
     buffer[0] = HEADER;
-    memcpy(buffer + 4, code <= 3 ? "CSMIALL" : "CSMISAS", 8);
+    memcpy(buffer + 4, code <= 4 ? "CSMIALL" : "CSMISAS", 8);
     buffer[16] = code;
     buffer[24] = size & 0xFF;
     buffer[25] = size >> 8 & 0xFF;
@@ -127,7 +128,7 @@ static void keep(uint32_t number, uint32_t code)
 /* Sends what stands in the buffer; 1 if it was granted. */
 static int send(const char *what, size_t length)
 {
-    uint32_t number = ascheknopf_request(state, sizeof state, medium, medium_len, buffer, length);
+    uint32_t number = ascheknopf_request(state, sizeof state, medium, medium_len, stage, sizeof stage, buffer, length);
     uint32_t code = word(buffer + CODE);
     keep(number, code);
     if (number != 0) {

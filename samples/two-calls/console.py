@@ -6,7 +6,7 @@ import ctypes
 import struct
 import sys
 
-STATE_SIZE, TOTALS_SIZE = 6181, 40
+STATE_SIZE, STAGE_SIZE, TOTALS_SIZE = 6190, 16384, 40
 NO_CODE = 0xFFFFFFFF
 LEVEL, PHY_COUNT, ROW_COUNT = 0, 1, 2
 HEADER, CODE, SECTOR, DISK = 28, 20, 512, 8192
@@ -19,7 +19,7 @@ NUMBERS = {
     103: "a wrong block check",
     104: "a wrong count or field",
     105: "two rows that share an address",
-    106: "a wrong medium length",
+    106: "a wrong medium or stage length",
     107: "no sound state",
 }
 CODES = {
@@ -87,7 +87,7 @@ class Adapter:
 
     def __init__(self, library, file, medium):
         self.library, self.file, self.medium = library, file, medium
-        self.state, self.record = bytearray(STATE_SIZE), bytearray()
+        self.stage, self.state, self.record = bytearray(STAGE_SIZE), bytearray(STATE_SIZE), bytearray()
 
     def open(self, text):
         """The number of the opening."""
@@ -98,7 +98,9 @@ class Adapter:
 
     def send(self, what, buffer):
         """Sends a request, in place; whether it was granted."""
-        number = self.library.ascheknopf_request(*lent(self.state), *lent(self.medium), *lent(buffer))
+        number = self.library.ascheknopf_request(
+            *lent(self.state), *lent(self.medium), *lent(self.stage), *lent(buffer)
+        )
         code = word(buffer, CODE)
         self.keep(number, code)
         if number != 0:
@@ -127,7 +129,7 @@ def request(code, body):
     """A sound request of a code: its header and the body."""
     header = bytearray(HEADER)
     header[0] = HEADER
-    header[4:11] = b"CSMIALL" if code <= 3 else b"CSMISAS"
+    header[4:11] = b"CSMIALL" if code <= 4 else b"CSMISAS"
     header[16] = code
     header[24:28] = len(body).to_bytes(4, "little")
     return header + body

@@ -1,5 +1,5 @@
 /* Requests whatever their header: a control code, the lowest level that may do it, a body, and the return code where no level denies it,
-   all by document 01, W-202, W-204 and section 10 of 001. And the two headers that they can be put behind. */
+   all by document 01, W-202, W-204, W-207 and section 10 of 001. And the two headers that they can be put behind. */
 #ifndef ASKED_H
 #define ASKED_H
 
@@ -9,7 +9,7 @@
 enum { FIRST = 28, FIRST_CONTROL = 16, FIRST_CODE = 20, FIRST_LENGTH = 24 };
 enum { LINUX = 20, LINUX_LENGTH = 4, LINUX_CODE = 8, LINUX_DIRECTION = 16 };
 
-/* A body begins with these bytes, up to uDataLength of code 25; the rest is FILL. */
+/* A body begins with these bytes, up to uDataLength of code 25 and to the image of code 4; the rest is FILL. */
 enum { BEGIN = 44, FILL = 0xA7 };
 
 struct asked {
@@ -28,16 +28,21 @@ struct asked {
 
 enum { STP_SIZE = 136 + 512 };
 
+/* Code 4 with an image of one block. */
+enum { DOWNLOAD = 4, DOWNLOAD_SIZE = 44 + 512 };
+#define VALIDATION {[1] = 2, [4] = 1}
+
 /* On the adapter of samples/good. */
 enum {
-    DRIVER_INFO, CONTROLLER, STATUS, PHY_INFO, SET_PHY_INFO, LINK_ERRORS, CLEAR, WRITE, READ, IDENTIFY, POWER_MODE, WRITE_BUFFER, PACKET,
-    SIGNATURE, SCSI_ADDRESS, DEVICE_ADDRESS, CONNECTORS, GRANTS
+    DRIVER_INFO, CONTROLLER, STATUS, VALIDATE, PHY_INFO, SET_PHY_INFO, LINK_ERRORS, CLEAR, WRITE, READ, IDENTIFY, POWER_MODE, WRITE_BUFFER,
+    PACKET, SIGNATURE, SCSI_ADDRESS, DEVICE_ADDRESS, CONNECTORS, GRANTS
 };
 
 static const struct asked GRANTED[GRANTS] = {
     [DRIVER_INFO] = {"driver info", 1, 1, 174, 0, {0}},
     [CONTROLLER] = {"controller configuration", 2, 1, 176, 0, {0}},
     [STATUS] = {"controller status", 3, 1, 36, 0, {0}},
+    [VALIDATE] = {"validate firmware", DOWNLOAD, 2, DOWNLOAD_SIZE, 0, VALIDATION},
     [PHY_INFO] = {"phy info", 20, 1, 2052, 0, {0}},
     [SET_PHY_INFO] = {"set phy info", 21, 3, 8, 0, {0, 0, 0, 8, 2}},
     [LINK_ERRORS] = {"link errors", 22, 1, 20, 0, {0, 0}},
@@ -62,6 +67,10 @@ static const struct asked REFUSED[] = {
     {"set phy info: class", 21, 3, 8, 3, {0, 0, 0, 0, 4}},
     {"set phy info: programmed byte", 21, 3, 8, 2001, {0, 0, 7}},
     {"set phy info: inverted", 21, 3, 8, 2001, {0, 0, 9, 8}},
+    {"validate firmware: image check", DOWNLOAD, 2, DOWNLOAD_SIZE, 1, VALIDATION},
+    {"validate firmware: no image", DOWNLOAD, 2, 44, 3, {[4] = 1}},
+    {"commit firmware: an image", DOWNLOAD, 2, DOWNLOAD_SIZE, 3, {[1] = 2}},
+    {"commit firmware: nothing staged", DOWNLOAD, 2, 44, 1, {0}},
     {"link errors: reset byte", 22, 1, 20, 3, {0, 2}},
     {"link errors: no such phy", 22, 1, 20, 2002, {4, 0}},
     {"link errors, cleared: no such phy", 22, 3, 20, 2002, {4, 1}},
@@ -94,14 +103,16 @@ static inline void check_asked(const char *test, const struct asked *a, uint32_t
 /* The signature of a control code, with its zero: 8 bytes. */
 static inline const char *signature(uint32_t control)
 {
-    return control <= 3 ? "CSMIALL" : "CSMISAS";
+    return control <= 4 ? "CSMIALL" : "CSMISAS";
 }
 
-/* The body in so many bytes. */
+/* The body in so many bytes; a code 4 that is granted has an image with its check. */
 static inline void put_body(const struct asked *a, uint8_t *body, size_t length)
 {
     memset(body, FILL, length);
     memcpy(body, a->begin, a->size < BEGIN ? a->size : BEGIN);
+    if (a->control == DOWNLOAD && a->code == 0)
+        put_word(body + DOWNLOAD_SIZE - 4, block_check(body + DOWNLOAD_SIZE - 512, 0));
 }
 
 /* A sound request under the first header, with so many bytes more behind its structure: the buffer's length. */

@@ -13,10 +13,7 @@ static inline void seal(void)
 {
     for (size_t k = 0; k < lent.file_len / BLOCK; k++) {
         uint8_t *block = lent.file + k * BLOCK;
-        uint32_t sum = (uint32_t)k + 1;
-        for (size_t at = 0; at < CHECK_AT; at += 4)
-            sum += word(block + at);
-        put_word(block + CHECK_AT, sum);
+        put_word(block + CHECK_AT, block_check(block, (uint32_t)k));
     }
 }
 
@@ -31,7 +28,7 @@ static inline int table_is(size_t at, size_t size, size_t most, const uint8_t *i
     return same;
 }
 
-/* Every byte of the state, by the file, whose rows all stand in one block. */
+/* Every byte of the state, by the file, whose rows all stand in one block. Nothing is staged. */
 static inline int state_is_the_files(uint8_t level)
 {
     const uint8_t *controller = lent.file + CONTROLLER_BLOCK * BLOCK;
@@ -42,7 +39,8 @@ static inline int state_is_the_files(uint8_t level)
         && table_is(ASCHEKNOPF_ROW(0), ASCHEKNOPF_ROW_SIZE, 64, lent.file + ROWS_BLOCK * BLOCK, ASCHEKNOPF_ROW_SIZE, lent.file[1])
         && memcmp(lent.state + ASCHEKNOPF_CONTROLLER, controller, ASCHEKNOPF_CONTROLLER_SIZE) == 0
         && memcmp(lent.state + ASCHEKNOPF_STATUS, controller + STATUS_AT, ASCHEKNOPF_STATUS_SIZE) == 0
-        && table_is(ASCHEKNOPF_CONNECTOR(0), ASCHEKNOPF_CONNECTOR_SIZE, 32, lent.file + CONNECTOR_BLOCK * BLOCK, BLOCK, PHYS);
+        && table_is(ASCHEKNOPF_CONNECTOR(0), ASCHEKNOPF_CONNECTOR_SIZE, 32, lent.file + CONNECTOR_BLOCK * BLOCK, BLOCK, PHYS)
+        && all(lent.state + ASCHEKNOPF_STAGED, 1 + ASCHEKNOPF_STAGED_REVISIONS_SIZE, 0);
 }
 
 /* The opening at Full has this number: accepted, the state is what the file holds; refused, it is zero. Nothing else is touched. */

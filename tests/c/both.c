@@ -20,6 +20,7 @@ static void lines(const char *text, const uint32_t codes[REQUESTS])
     check("lines of the record", same);
     check("the record's rest", all(run.record + REQUESTS * LINE, sizeof run.record - REQUESTS * LINE, 0x5A));
     check("behind the session", session_stays(run.session_len));
+    check("the stage", stage_stays());
     same = 1;
     for (size_t n = 1; n <= REQUESTS; n++)
         same = same && memcmp(run.session + place(n), before.session + place(n), BEFORE) == 0;
@@ -54,8 +55,9 @@ static void one_call(struct run *by, uint8_t *state, size_t n)
     uint8_t *at = by->session + place(n), *buffer = at + BEFORE, *line = by->record + (n - 1) * LINE;
     const size_t length = word(at + 8), size = ASCHEKNOPF_STATE_SIZE;
     const int first = word(at) == UNDER_FIRST;
-    uint32_t call = first ? ascheknopf_request(state, size, by->medium, by->medium_len, buffer, length)
-                          : ascheknopf_request_linux(state, size, by->medium, by->medium_len, word(at + 4), buffer, length);
+    uint32_t call = first ? ascheknopf_request(state, size, by->medium, by->medium_len, by->stage, by->stage_len, buffer, length)
+                          : ascheknopf_request_linux(state, size, by->medium, by->medium_len, by->stage, by->stage_len, word(at + 4),
+                                                     buffer, length);
     put_word(line, call);
     put_word(line + 4, call != 0 ? NONE : word(buffer + (first ? FIRST_CODE : LINUX_CODE)));
 }
@@ -91,9 +93,9 @@ static void first_alone(const char *sample, const char *text)
     plain = run;
     add_plain(&plain);
     size_t count = ascheknopf_run((const uint8_t *)text, strlen(text), plain.file, plain.file_len, plain.medium, plain.medium_len,
-                                  plain.session, plain.session_len, plain.record, plain.record_len);
+                                  plain.stage, plain.stage_len, plain.session, plain.session_len, plain.record, plain.record_len);
     int same = count >= 12 && handled(text) == count && memcmp(run.record, plain.record, sizeof run.record) == 0
-        && memcmp(run.medium, plain.medium, sizeof run.medium) == 0;
+        && memcmp(run.medium, plain.medium, sizeof run.medium) == 0 && memcmp(run.stage, plain.stage, sizeof run.stage) == 0;
     both = run;
     add_plain(&plain);
     check("as by ascheknopf_run", same && memcmp(run.session, both.session, sizeof run.session) == 0);
@@ -102,7 +104,7 @@ static void first_alone(const char *sample, const char *text)
 /* An opening that is refused: 107 for each request of both kinds, and all bytes but the record's lines stay. */
 static void refused(const char *what, const char *text)
 {
-    int same = handled(text) == REQUESTS && session_stays(0) && all(run.medium, sizeof run.medium, 0);
+    int same = handled(text) == REQUESTS && session_stays(0) && all(run.medium, sizeof run.medium, 0) && stage_stays();
     for (size_t n = 1; n <= REQUESTS; n++)
         same = same && line_is(n, 107, NONE);
     check(what, same);
@@ -147,21 +149,23 @@ static void places(void)
 /* A null pointer with length 0, for each argument and for all. */
 static void null_pointers(void)
 {
-    const uint8_t *text = (const uint8_t *)FULL;
+    const uint8_t *text = (const uint8_t *)FULL, *file = run.file;
+    uint8_t *medium = run.medium, *stage = run.stage, *session = run.session, *record = run.record;
     run = mixed;
-    check("null: all", ascheknopf_run_both(NULL, 0, NULL, 0, NULL, 0, NULL, 0, NULL, 0) == 0);
-    check("null: session", ascheknopf_run_both(text, 10, run.file, run.file_len, run.medium, run.medium_len, NULL, 0,
-                                               run.record, run.record_len) == 0);
-    check("null: record", ascheknopf_run_both(text, 10, run.file, run.file_len, run.medium, run.medium_len, run.session, run.session_len,
-                                              NULL, 0) == 0);
-    check("null: nothing is written", all(run.record, sizeof run.record, 0x5A) && all(run.medium, sizeof run.medium, 0));
-    check("null: file", ascheknopf_run_both(text, 10, NULL, 0, run.medium, run.medium_len, run.session, run.session_len,
-                                            run.record, run.record_len) == REQUESTS && line_is(1, 107, NONE) && line_is(2, 107, NONE));
-    check("null: medium", ascheknopf_run_both(text, 10, run.file, run.file_len, NULL, 0, run.session, run.session_len,
-                                              run.record, run.record_len) == REQUESTS && line_is(1, 107, NONE) && line_is(2, 107, NONE));
+    const size_t size = run.file_len, disks = run.medium_len, bytes = run.session_len, room = run.record_len;
+    check("null: all", ascheknopf_run_both(NULL, 0, NULL, 0, NULL, 0, NULL, 0, NULL, 0, NULL, 0) == 0);
+    check("null: session", ascheknopf_run_both(text, 10, file, size, medium, disks, stage, STAGE, NULL, 0, record, room) == 0);
+    check("null: record", ascheknopf_run_both(text, 10, file, size, medium, disks, stage, STAGE, session, bytes, NULL, 0) == 0);
+    check("null: nothing is written", all(record, room, 0x5A) && all(medium, disks, 0) && all(stage, sizeof run.stage, 0xC3));
+    check("null: file", ascheknopf_run_both(text, 10, NULL, 0, medium, disks, stage, STAGE, session, bytes, record, room) == REQUESTS
+                        && line_is(1, 107, NONE) && line_is(2, 107, NONE));
+    check("null: medium", ascheknopf_run_both(text, 10, file, size, NULL, 0, stage, STAGE, session, bytes, record, room) == REQUESTS
+                          && line_is(1, 107, NONE) && line_is(2, 107, NONE));
+    check("null: stage", ascheknopf_run_both(text, 10, file, size, medium, disks, NULL, 0, session, bytes, record, room) == REQUESTS
+                         && line_is(1, 106, NONE) && line_is(2, 106, NONE));
     /* Limited */
-    check("null: text", ascheknopf_run_both(NULL, 0, run.file, run.file_len, run.medium, run.medium_len, run.session, run.session_len,
-                                            run.record, run.record_len) == REQUESTS && line_is(3, 0, 4) && line_is(5, 0, 0));
+    check("null: text", ascheknopf_run_both(NULL, 0, file, size, medium, disks, stage, STAGE, session, bytes, record, room) == REQUESTS
+                        && line_is(3, 0, 4) && line_is(5, 0, 0));
 }
 
 int main(void)

@@ -12,7 +12,7 @@ static inline size_t handled(const char *text)
 {
     before = run;
     return ascheknopf_run_both((const uint8_t *)text, strlen(text), run.file, run.file_len, run.medium, run.medium_len,
-                               run.session, run.session_len, run.record, run.record_len);
+                               run.stage, run.stage_len, run.session, run.session_len, run.record, run.record_len);
 }
 
 /* Where request n begins, from 1, with the three numbers. */

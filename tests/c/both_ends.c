@@ -16,7 +16,8 @@ static void ends_before(const char *what, size_t n)
     shorter = run;
     run = damaged;
     right = right && handled(RESTRICTED) == n - 1 && session_stays(at) && memcmp(run.session, shorter.session, at) == 0
-        && memcmp(run.medium, shorter.medium, sizeof run.medium) == 0 && memcmp(run.record, shorter.record, sizeof run.record) == 0;
+        && memcmp(run.medium, shorter.medium, sizeof run.medium) == 0 && memcmp(run.record, shorter.record, sizeof run.record) == 0
+        && stage_stays();
     check_at(what, (uint32_t)n, right);
 }
 

@@ -1,5 +1,5 @@
 /* The two calls of include/ascheknopf.h: an opening, requests one at a time, and refusals that touch nothing. What is expected was written
-   down from document 01, W-202, W-204 and the description of samples/good. Runs in the repository's root. */
+   down from document 01, W-202, W-204, W-207 and the description of samples/good. Runs in the repository's root. */
 #define PROGRAM "calls.c"
 #include "blocks.h"
 
@@ -8,7 +8,8 @@ enum { HEADER = 28, CODE = 20 };
 static uint32_t handled(void)
 {
     before = lent;
-    return ascheknopf_request(lent.state, lent.state_len, lent.medium, lent.medium_len, lent.buffer, lent.buffer_len);
+    return ascheknopf_request(lent.state, lent.state_len, lent.medium, lent.medium_len, lent.stage, lent.stage_len,
+                              lent.buffer, lent.buffer_len);
 }
 
 /* A sound request; its body is zeros, to be filled in. */
@@ -16,7 +17,7 @@ static uint8_t *request(uint8_t code, size_t size)
 {
     memset(lent.buffer, 0, sizeof lent.buffer);
     lent.buffer[0] = HEADER;
-    memcpy(lent.buffer + 4, code <= 3 ? "CSMIALL" : "CSMISAS", 8);
+    memcpy(lent.buffer + 4, code <= 4 ? "CSMIALL" : "CSMISAS", 8);
     lent.buffer[16] = code;
     lent.buffer[24] = size & 0xFF;
     lent.buffer[25] = size >> 8 & 0xFF;
@@ -49,7 +50,10 @@ static void places(void)
                            && ASCHEKNOPF_ROW(0) == ASCHEKNOPF_PHY(32) && ASCHEKNOPF_CONTROLLER == ASCHEKNOPF_ROW(64));
     check("the controller", ASCHEKNOPF_STATUS == ASCHEKNOPF_CONTROLLER + ASCHEKNOPF_CONTROLLER_SIZE
                             && ASCHEKNOPF_CONNECTOR(0) == ASCHEKNOPF_STATUS + ASCHEKNOPF_STATUS_SIZE);
-    check("the connectors", ASCHEKNOPF_CONNECTOR(32) == ASCHEKNOPF_STATE_SIZE);
+    check("the connectors", ASCHEKNOPF_STAGED == ASCHEKNOPF_CONNECTOR(32));
+    check("what is staged", ASCHEKNOPF_STAGED_REVISIONS == ASCHEKNOPF_STAGED + 1
+                            && ASCHEKNOPF_STATE_SIZE == ASCHEKNOPF_STAGED_REVISIONS + ASCHEKNOPF_STAGED_REVISIONS_SIZE);
+    check("the stage", ASCHEKNOPF_STAGE_SIZE == STAGE);
 }
 
 static void openings(void)
@@ -58,7 +62,7 @@ static void openings(void)
     for (uint8_t level = 0; level < 4; level++) {
         start("good");
         check("an opening", opened(texts[level]) == 0 && state_is_the_files(level));
-        check("an opening leaves the rest", medium_stays() && lent.state[ASCHEKNOPF_STATE_SIZE] == 0x5A);
+        check("an opening leaves the rest", store_stays() && lent.state[ASCHEKNOPF_STATE_SIZE] == 0x5A);
     }
     /* by the sample's description */
     const uint8_t *phy = lent.state + ASCHEKNOPF_PHY(0), *row = lent.state + ASCHEKNOPF_ROW(2);
@@ -75,7 +79,7 @@ static void refused(const char *what, const char *text, uint32_t number)
 {
     memset(lent.state, 0x5A, sizeof lent.state);
     check(what, opened(text) == number && all(lent.state, ASCHEKNOPF_STATE_SIZE, 0) && lent.state[ASCHEKNOPF_STATE_SIZE] == 0x5A
-                && medium_stays());
+                && store_stays());
     request(1, 174);
     check("a request to the zero state", handled() == 107 && untouched());
 }
@@ -104,7 +108,7 @@ static void granted(void)
     check("the opening", opened(FULL) == 0);
 
     body = request(1, 174);
-    check("driver info", answered(0) && memcmp(body, lent.file + 4, 174) == 0 && state_stays() && medium_stays());
+    check("driver info", answered(0) && memcmp(body, lent.file + 4, 174) == 0 && state_stays() && store_stays());
 
     body = request(20, 2052);
     check("phy info", answered(0) && body[0] == PHYS && all(body + 1, 3, 0) && memcmp(body + 4, lent.file + 512, 64) == 0
@@ -114,7 +118,7 @@ static void granted(void)
     body[1] = 1;
     check("link errors", answered(0) && word(body + 4) == 3 && word(body + 8) == 0 && word(body + 12) == 1 && word(body + 16) == 0);
     check("the counters are cleared", all(lent.state + ASCHEKNOPF_PHY(0) + ASCHEKNOPF_PHY_COUNTERS, 16, 0)
-                                      && state_but(ASCHEKNOPF_PHY(0) + ASCHEKNOPF_PHY_COUNTERS, 16) && medium_stays());
+                                      && state_but(ASCHEKNOPF_PHY(0) + ASCHEKNOPF_PHY_COUNTERS, 16) && store_stays());
 
     memcpy(request(21, 8), set, sizeof set);
     check("set phy info", answered(0));
@@ -125,9 +129,9 @@ static void granted(void)
 
     memset(command(0x30) + 136, 0xA7, SECTOR);
     check("a write", answered(0) && all(lent.medium + 5 * SECTOR, SECTOR, 0xA7) && all(lent.medium, 5 * SECTOR, 0)
-                     && all(lent.medium + 6 * SECTOR, sizeof lent.medium - 6 * SECTOR, 0) && state_stays());
+                     && all(lent.medium + 6 * SECTOR, sizeof lent.medium - 6 * SECTOR, 0) && state_stays() && stage_stays());
     body = command(0x20);
-    check("a read", answered(0) && body[50] == 0x50 && word(body + 132) == SECTOR && all(body + 136, SECTOR, 0xA7) && medium_stays());
+    check("a read", answered(0) && body[50] == 0x50 && word(body + 132) == SECTOR && all(body + 136, SECTOR, 0xA7) && store_stays());
 
     body = request(26, 24);
     check("the signature", answered(0) && memcmp(body + 4, lent.file + 512 + 80, 20) == 0);
@@ -143,7 +147,7 @@ static void granted(void)
 static void denied(uint8_t level)
 {
     lent.state[ASCHEKNOPF_LEVEL] = level;
-    int right = answered(4) && state_stays() && medium_stays();
+    int right = answered(4) && state_stays() && store_stays();
     memcpy(lent.buffer + CODE, before.buffer + CODE, 4);
     check("a denied request", right && memcmp(lent.buffer, before.buffer, sizeof lent.buffer) == 0);
 }
@@ -178,15 +182,17 @@ static void refusals(void)
     start("good");
     check("the opening", opened(FULL) == 0);
     const struct lent sound = lent;
-    const size_t places[7] = {ASCHEKNOPF_LEVEL, ASCHEKNOPF_PHY(1) + 20, ASCHEKNOPF_PHY(2) + ASCHEKNOPF_PHY_FIXED,
+    const size_t places[9] = {ASCHEKNOPF_LEVEL, ASCHEKNOPF_PHY(1) + 20, ASCHEKNOPF_PHY(2) + ASCHEKNOPF_PHY_FIXED,
                               ASCHEKNOPF_PHY(31) + ASCHEKNOPF_PHY_SIZE - 1, ASCHEKNOPF_ROW(63) + ASCHEKNOPF_ROW_LUN,
-                              ASCHEKNOPF_CONNECTOR(3) + ASCHEKNOPF_CONNECTOR_PINOUT, ASCHEKNOPF_STATE_SIZE - 1};
-    for (int i = 0; i < 7; i++) {
+                              ASCHEKNOPF_CONNECTOR(3) + ASCHEKNOPF_CONNECTOR_PINOUT, ASCHEKNOPF_CONNECTOR(32) - 1, ASCHEKNOPF_STAGED,
+                              ASCHEKNOPF_STATE_SIZE - 1};
+    for (int i = 0; i < 9; i++) {
         lent = sound;
         lent.state[places[i]] = 0x77;
         request(1, 174);
         number_is("a broken rule", 107);
         lent.medium_len--;
+        lent.stage_len--;
         lent.buffer_len = 27;
         number_is("a broken rule before all else", 107);
     }
@@ -200,6 +206,12 @@ static void refusals(void)
     number_is("a medium that is one byte short", 106);
     lent.medium_len = 0;
     number_is("no medium", 106);
+    lent = sound;
+    lent.buffer_len = 27;
+    lent.stage_len--;
+    number_is("a stage that is one byte short", 106);
+    lent.stage_len = 0;
+    number_is("no stage", 106);
 }
 
 static void state_lengths(void)
@@ -226,7 +238,7 @@ static void state_lengths(void)
 static void null_pointers(void)
 {
     const uint8_t *full = (const uint8_t *)FULL;
-    uint8_t *file = lent.file, *medium = lent.medium, *state = lent.state, *buffer = lent.buffer;
+    uint8_t *file = lent.file, *medium = lent.medium, *stage = lent.stage, *state = lent.state, *buffer = lent.buffer;
     const size_t size = ASCHEKNOPF_STATE_SIZE;
     start("good");
     check("null: text", ascheknopf_open(NULL, 0, file, lent.file_len, medium, lent.medium_len, state, size) == 0
@@ -240,10 +252,11 @@ static void null_pointers(void)
     check("the opening", opened(FULL) == 0);
     request(1, 174);
     before = lent;
-    check("null: state", ascheknopf_request(NULL, 0, medium, lent.medium_len, buffer, lent.buffer_len) == 107 && untouched());
-    check("null: medium", ascheknopf_request(state, size, NULL, 0, buffer, lent.buffer_len) == 106 && untouched());
-    check("null: buffer", ascheknopf_request(state, size, medium, lent.medium_len, NULL, 0) == 100 && untouched());
-    check("null: all of a request", ascheknopf_request(NULL, 0, NULL, 0, NULL, 0) == 107);
+    check("null: state", ascheknopf_request(NULL, 0, medium, lent.medium_len, stage, STAGE, buffer, lent.buffer_len) == 107 && untouched());
+    check("null: medium", ascheknopf_request(state, size, NULL, 0, stage, STAGE, buffer, lent.buffer_len) == 106 && untouched());
+    check("null: stage", ascheknopf_request(state, size, medium, lent.medium_len, NULL, 0, buffer, lent.buffer_len) == 106 && untouched());
+    check("null: buffer", ascheknopf_request(state, size, medium, lent.medium_len, stage, STAGE, NULL, 0) == 100 && untouched());
+    check("null: all of a request", ascheknopf_request(NULL, 0, NULL, 0, NULL, 0, NULL, 0) == 107);
 }
 
 int main(void)

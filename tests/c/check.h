@@ -1,4 +1,4 @@
-/* What the test programs share: a count of what holds, little-endian numbers, and the samples' files. */
+/* What the test programs share: a count of what holds, little-endian numbers, the check of a block, and the samples' files. */
 #ifndef CHECK_H
 #define CHECK_H
 
@@ -40,6 +40,15 @@ static inline void put_word(uint8_t *at, uint32_t number)
 {
     for (int i = 0; i < 4; i++)
         at[i] = number >> 8 * i & 0xFF;
+}
+
+/* The check of a block of 512 bytes with this number. */
+static inline uint32_t block_check(const uint8_t *block, uint32_t number)
+{
+    uint32_t sum = number + 1;
+    for (size_t at = 0; at < 508; at += 4)
+        sum += word(block + at);
+    return sum;
 }
 
 static inline int all(const uint8_t *at, size_t length, uint8_t value)

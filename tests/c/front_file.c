@@ -111,11 +111,11 @@ static void state_gives(const char *what, uint32_t vector, uint32_t number)
     check_at(what, vector, answered_all(&FIRST_HEADER, number) && answered_all(&LINUX_HEADER, number));
 }
 
-/* Every byte of the new tables: free below p, but for pinouts; zero from p on. */
+/* Every byte of these tables: free below p, but for pinouts; zero from p on. */
 static void state_bytes(void)
 {
     const uint8_t changes[3] = {0x01, 0x80, 0xFF};
-    for (size_t at = ASCHEKNOPF_CONTROLLER; at < ASCHEKNOPF_STATE_SIZE; at++) {
+    for (size_t at = ASCHEKNOPF_CONTROLLER; at < ASCHEKNOPF_CONNECTOR(32); at++) {
         const int pinout = at >= ASCHEKNOPF_CONNECTOR(0) && (at - ASCHEKNOPF_CONNECTOR(0)) % ASCHEKNOPF_CONNECTOR_SIZE < 4;
         const int there = at < ASCHEKNOPF_CONNECTOR(PHYS);
         for (int i = 0; i < 3 && !(there && pinout); i++) {
@@ -137,11 +137,11 @@ static void pinouts_in_a_state(size_t n)
         }
 }
 
-/* As long as it was before W-204 and before W-205, and as it ends behind each table. */
+/* As long as it was before W-204, before W-205 and before W-207, and as it ends behind each table. */
 static void state_sizes(void)
 {
-    const size_t sizes[7] = {4785, 6149, 4817, 4993, 5029, ASCHEKNOPF_CONNECTOR(PHYS), ASCHEKNOPF_STATE_SIZE - 1};
-    for (int i = 0; i < 7; i++) {
+    const size_t sizes[8] = {4785, 6149, 6181, 4817, 4993, 5029, ASCHEKNOPF_CONNECTOR(PHYS), ASCHEKNOPF_STATE_SIZE - 1};
+    for (int i = 0; i < 8; i++) {
         lent = sound;
         lent.state_len = sizes[i];
         state_gives("a shorter state", (uint32_t)sizes[i], 107);

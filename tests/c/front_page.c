@@ -78,8 +78,8 @@ static void signatures(int level, const struct asked *a)
 /* Codes beside them, with either signature, in a buffer that is long enough for any. */
 static void neighbours(const struct header *h, int level)
 {
-    const uint8_t codes[8] = {0, 4, 5, 19, 23, 24, 29, 31};
-    for (int i = 0; i < 16; i++) {
+    const uint8_t codes[7] = {0, 5, 19, 23, 24, 29, 31};
+    for (int i = 0; i < 14; i++) {
         struct asked a = GRANTED[PHY_INFO];
         a.control = codes[i / 2];
         lent = sound;
@@ -162,7 +162,8 @@ static void phy_counts(void)
         state[ASCHEKNOPF_PHY_COUNT] = (uint8_t)(n + 1);
         memset(buffer, FILL, sizeof buffer);
         put_linux(&GRANTED[CONNECTORS], 0, buffer);
-        uint32_t number = ascheknopf_request_linux(state, sizeof state, medium, (n + 1) * DISK, 30, buffer, sizeof buffer);
+        uint32_t number = ascheknopf_request_linux(state, sizeof state, medium, (n + 1) * DISK, lent.stage, STAGE, 30,
+                                                   buffer, sizeof buffer);
         check_at("references", (uint32_t)n + 1, number == 0 && word(buffer + LINUX_CODE) == 0
                                                 && memcmp(buffer + LINUX, expected, sizeof expected) == 0);
     }

@@ -31,7 +31,8 @@ static inline uint32_t handled_under(const struct header *h)
     if (h == &LINUX_HEADER)
         return handled();
     before = lent;
-    return ascheknopf_request(lent.state, lent.state_len, lent.medium, lent.medium_len, lent.buffer, lent.buffer_len);
+    return ascheknopf_request(lent.state, lent.state_len, lent.medium, lent.medium_len, lent.stage, lent.stage_len,
+                              lent.buffer, lent.buffer_len);
 }
 
 /* The call's number is this one, and nothing is touched. */

@@ -4,7 +4,7 @@
 #include "linux.h"
 
 /* The checks in their order, each with what makes it fail. */
-enum { STATE = 1, MEDIUM = 2, SHORT = 4, DIRECTION = 8, CONTROL = 16, LENGTH = 32, OWN = 64, CHECKS = 7 };
+enum { STATE = 1, MEDIUM = 2, STAGE_LENGTH = 4, SHORT = 8, DIRECTION = 16, CONTROL = 32, LENGTH = 64, OWN = 128, CHECKS = 8 };
 
 static void break_checks(unsigned faults)
 {
@@ -12,6 +12,8 @@ static void break_checks(unsigned faults)
         lent.state[ASCHEKNOPF_PHY(1) + 20] = 0x77;
     if (faults & MEDIUM)
         lent.medium_len--;
+    if (faults & STAGE_LENGTH)
+        lent.stage_len--;
     if (faults & SHORT)
         lent.buffer_len = LINUX - 1;
     if (faults & DIRECTION)
@@ -33,7 +35,7 @@ static int answer_is(uint32_t answer)
 /* Of the checks that fail the first one decides; where none does, the request is granted at every level. */
 static void order(int level)
 {
-    const uint32_t answers[CHECKS + 1] = {107, 106, 100, 3, 2, 3, 2002, 0};
+    const uint32_t answers[CHECKS + 1] = {107, 106, 106, 100, 3, 2, 3, 2002, 0};
     open_sample("good", level);
     for (unsigned faults = 0; faults < 1 << CHECKS; faults++) {
         int first = 0;
@@ -70,7 +72,7 @@ static void buffers(void)
     check("a header alone: Direction", code_alone(3));
 }
 
-/* Every request, to a state that is refused: the sound one, one with no buffer, and one with a wrong medium. */
+/* Every request, to a state that is refused: the sound one, one with no buffer, and one with a wrong medium and stage. */
 static void state_is_refused(const char *what, const struct lent *refused)
 {
     for (uint32_t i = 0; i < GRANTS; i++) {
@@ -80,19 +82,21 @@ static void state_is_refused(const char *what, const struct lent *refused)
         lent.buffer_len = 0;
         right = right && number_alone(107);
         lent.medium_len = 0;
+        lent.stage_len = 0;
         check_asked(what, &GRANTED[i], i, right && number_alone(107));
     }
 }
 
 static void states(int level)
 {
-    const size_t places[8] = {ASCHEKNOPF_LEVEL, ASCHEKNOPF_PHY_COUNT, ASCHEKNOPF_PHY(1) + 20, ASCHEKNOPF_PHY(2) + ASCHEKNOPF_PHY_FIXED,
+    const size_t places[9] = {ASCHEKNOPF_LEVEL, ASCHEKNOPF_PHY_COUNT, ASCHEKNOPF_PHY(1) + 20, ASCHEKNOPF_PHY(2) + ASCHEKNOPF_PHY_FIXED,
                               ASCHEKNOPF_PHY(31) + ASCHEKNOPF_PHY_SIZE - 1, ASCHEKNOPF_ROW(63) + ASCHEKNOPF_ROW_LUN,
-                              ASCHEKNOPF_CONNECTOR(3) + ASCHEKNOPF_CONNECTOR_PINOUT, ASCHEKNOPF_STATE_SIZE - 1};
-    const size_t lengths[8] = {0, 1, 3, 4096, ASCHEKNOPF_CONTROLLER, ASCHEKNOPF_STATUS, ASCHEKNOPF_STATE_SIZE - 1,
+                              ASCHEKNOPF_CONNECTOR(3) + ASCHEKNOPF_CONNECTOR_PINOUT, ASCHEKNOPF_CONNECTOR(32) - 1,
+                              ASCHEKNOPF_STATE_SIZE - 1};
+    const size_t lengths[9] = {0, 1, 3, 4096, ASCHEKNOPF_CONTROLLER, ASCHEKNOPF_STATUS, ASCHEKNOPF_STAGED, ASCHEKNOPF_STATE_SIZE - 1,
                                ASCHEKNOPF_STATE_SIZE + 1};
     open_sample("good", level);
-    for (int i = 0; i < 8; i++) {
+    for (int i = 0; i < 9; i++) {
         struct lent broken = sound, other = sound;
         broken.state[places[i]] = 0x77;
         state_is_refused("a broken rule", &broken);
@@ -141,16 +145,19 @@ static void media(void)
 /* A null pointer with length 0, for each argument and for all. */
 static void null_pointers(void)
 {
-    uint8_t *medium = lent.medium, *state = lent.state, *buffer = lent.buffer;
-    const size_t size = ASCHEKNOPF_STATE_SIZE;
+    uint8_t *medium = lent.medium, *stage = lent.stage, *state = lent.state, *buffer = lent.buffer;
+    const size_t size = ASCHEKNOPF_STATE_SIZE, disks = PHYS * DISK;
     open_sample("good", 3);
     ask(&GRANTED[DRIVER_INFO], 0);
     before = lent;
-    check("null: state", ascheknopf_request_linux(NULL, 0, medium, lent.medium_len, 1, buffer, lent.buffer_len) == 107 && untouched());
-    check("null: medium", ascheknopf_request_linux(state, size, NULL, 0, 1, buffer, lent.buffer_len) == 106 && untouched());
-    check("null: buffer", ascheknopf_request_linux(state, size, medium, lent.medium_len, 1, NULL, 0) == 100 && untouched());
-    check("null: medium and buffer", ascheknopf_request_linux(state, size, NULL, 0, 1, NULL, 0) == 106 && untouched());
-    check("null: all", ascheknopf_request_linux(NULL, 0, NULL, 0, 1, NULL, 0) == 107);
+    const size_t length = lent.buffer_len;
+    check("null: state", ascheknopf_request_linux(NULL, 0, medium, disks, stage, STAGE, 1, buffer, length) == 107 && untouched());
+    check("null: medium", ascheknopf_request_linux(state, size, NULL, 0, stage, STAGE, 1, buffer, length) == 106 && untouched());
+    check("null: stage", ascheknopf_request_linux(state, size, medium, disks, NULL, 0, 1, buffer, length) == 106 && untouched());
+    check("null: buffer", ascheknopf_request_linux(state, size, medium, disks, stage, STAGE, 1, NULL, 0) == 100 && untouched());
+    check("null: medium and buffer", ascheknopf_request_linux(state, size, NULL, 0, stage, STAGE, 1, NULL, 0) == 106 && untouched());
+    check("null: stage and buffer", ascheknopf_request_linux(state, size, medium, disks, NULL, 0, 1, NULL, 0) == 106 && untouched());
+    check("null: all", ascheknopf_request_linux(NULL, 0, NULL, 0, NULL, 0, 1, NULL, 0) == 107);
 }
 
 /* What the header file calls the places of 4.2.3.1. */

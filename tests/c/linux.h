@@ -33,7 +33,8 @@ static inline uint8_t *ask(const struct asked *a, size_t more)
 static inline uint32_t handled(void)
 {
     before = lent;
-    return ascheknopf_request_linux(lent.state, lent.state_len, lent.medium, lent.medium_len, control, lent.buffer, lent.buffer_len);
+    return ascheknopf_request_linux(lent.state, lent.state_len, lent.medium, lent.medium_len, lent.stage, lent.stage_len,
+                                    control, lent.buffer, lent.buffer_len);
 }
 
 /* The same request under the first header. */
@@ -41,7 +42,8 @@ static inline uint32_t handled_first(const struct asked *a)
 {
     lent.buffer_len = put_first(a, 0, lent.buffer);
     before = lent;
-    return ascheknopf_request(lent.state, lent.state_len, lent.medium, lent.medium_len, lent.buffer, lent.buffer_len);
+    return ascheknopf_request(lent.state, lent.state_len, lent.medium, lent.medium_len, lent.stage, lent.stage_len,
+                              lent.buffer, lent.buffer_len);
 }
 
 /* The call's number is this one, and nothing is touched. */
@@ -70,7 +72,7 @@ static inline int code_alone(uint32_t code)
 static inline int phy_is_set(void)
 {
     const uint8_t *entity = lent.state + ASCHEKNOPF_PHY(0) + ASCHEKNOPF_PHY_ENTITY;
-    return entity[21] == 2 && entity[29] == 8 && entity[30] == 0x88 && entity[31] == 0x89 && medium_stays()
+    return entity[21] == 2 && entity[29] == 8 && entity[30] == 0x88 && entity[31] == 0x89 && store_stays()
         && state_but(ASCHEKNOPF_PHY(0) + 21, 11) && memcmp(entity + 22, before.state + ASCHEKNOPF_PHY(0) + 22, 7) == 0;
 }
 

@@ -85,10 +85,10 @@ static void data_lengths(void)
 /* Document 01's numbers are known, and no others: not those that later requests will serve, and not Linux's own of section 10. */
 static void controls(void)
 {
-    const uint32_t unknown[39] = {0, 4, 5, 10, 11, 19, 23, 24, 29, 31, 60, 61, 0x101, 0x102, 0x103, 0x115, 0x11E, 0x10019, 0x1000019,
+    const uint32_t unknown[38] = {0, 5, 10, 11, 19, 23, 24, 29, 31, 60, 61, 0x101, 0x102, 0x103, 0x115, 0x11E, 0x10019, 0x1000019,
         0x80000015, 0xFFFFFFFF, 0xCC770001, 0xCC770002, 0xCC770003, 0xCC770004, 0xCC77000A, 0xCC77000B, 0xCC770014, 0xCC770015, 0xCC770016,
         0xCC770017, 0xCC770018, 0xCC770019, 0xCC770020, 0xCC770021, 0xCC770022, 0xCC770023, 0xCC770024, 0xCC77003C};
-    for (int i = 0; i < 39; i++) {
+    for (int i = 0; i < 38; i++) {
         lent = sound;
         ask(&GRANTED[PHY_INFO], 0);
         control = unknown[i];

@@ -1,6 +1,6 @@
 /* Requests under the Linux header that pass its checks: every code at every level, beside what the first header denies there; and that they
-   get what the first header gets at Full. What is expected was written down from W-201, W-202, document 01 and the descriptions of the
-   samples. Runs in the repository's root. */
+   get what the first header gets at Full. What is expected was written down from W-201, W-202, W-207, document 01 and the descriptions of
+   the samples. Runs in the repository's root. */
 #define PROGRAM "linux_served.c"
 #include "linux.h"
 
@@ -20,7 +20,7 @@ static int body_stays(size_t from, size_t to)
 
 static int reads_only(void)
 {
-    return answered(0) && state_stays() && medium_stays();
+    return answered(0) && state_stays() && store_stays();
 }
 
 static void reports(void)
@@ -48,7 +48,7 @@ static void counters(void)
     const uint8_t *body = ask(&GRANTED[LINK_ERRORS], 0);
     check("link errors", reads_only() && word(body + 4) == 3 && word(body + 8) == 0 && word(body + 12) == 1 && word(body + 16) == 0);
     ask(&GRANTED[CLEAR], 0);
-    check("link errors, cleared", answered(0) && word(body + 4) == 3 && word(body + 12) == 1 && body_stays(0, 4) && medium_stays());
+    check("link errors, cleared", answered(0) && word(body + 4) == 3 && word(body + 12) == 1 && body_stays(0, 4) && store_stays());
     check("the counters are cleared", all(lent.state + ASCHEKNOPF_PHY(0) + ASCHEKNOPF_PHY_COUNTERS, 16, 0)
                                       && state_but(ASCHEKNOPF_PHY(0) + ASCHEKNOPF_PHY_COUNTERS, 16));
 }
@@ -60,7 +60,7 @@ static void writes(void)
     check("the phy is set", phy_is_set());
     const uint8_t *body = ask(&GRANTED[WRITE], 0);
     check("a write", answered(0) && status_is(body, 0x50, 0, 1, SECTOR) && body_stays(0, 44) && body_stays(136, STP_SIZE)
-                     && state_stays());
+                     && state_stays() && stage_stays());
     check("the sector is written", all(lent.medium + 5 * SECTOR, SECTOR, FILL) && all(lent.medium, 5 * SECTOR, 0)
                                    && all(lent.medium + 6 * SECTOR, sizeof lent.medium - 6 * SECTOR, 0));
 }
@@ -87,7 +87,7 @@ static void commands(void)
         const int moves = ata == 0x20 || ata == 0x30 || ata == 0xEC, succeeds = moves || ata == 0xE5;
         check_at("command", ata, answered(0) && state_stays() && body_stays(0, 44)
                                  && status_is(body, succeeds ? 0x50 : 0x51, succeeds ? 0 : 4, ata == 0xE5 ? 0xFF : 1, moves ? SECTOR : 0)
-                                 && (moves || body_stays(136, STP_SIZE)) && (ata == 0x30 || medium_stays()));
+                                 && (moves || body_stays(136, STP_SIZE)) && (ata == 0x30 || medium_stays()) && stage_stays());
     }
 }
 
@@ -119,7 +119,7 @@ static void levels(const char *sample, const struct asked *table, int count)
 /* A second adapter from the same file and medium, at Full, which is asked the same under the first header. */
 static struct lent full;
 
-/* Both are asked: return code, body, medium and state but the level are the same. The two Lengths need not agree. */
+/* Both are asked: return code, body, medium, stage and state but the level are the same. The two Lengths need not agree. */
 static int same(const struct asked *a, uint32_t first_more, uint32_t linux_more)
 {
     ask(a, MORE);
@@ -127,10 +127,11 @@ static int same(const struct asked *a, uint32_t first_more, uint32_t linux_more)
     full.buffer_len = put_first(a, MORE, full.buffer);
     put_word(full.buffer + FIRST_LENGTH, a->size + first_more);
     return handled() == 0
-        && ascheknopf_request(full.state, full.state_len, full.medium, full.medium_len, full.buffer, full.buffer_len) == 0
+        && ascheknopf_request(full.state, full.state_len, full.medium, full.medium_len, full.stage, full.stage_len,
+                              full.buffer, full.buffer_len) == 0
         && word(lent.buffer + LINUX_CODE) == word(full.buffer + FIRST_CODE)
         && memcmp(lent.buffer + LINUX, full.buffer + FIRST, a->size + MORE) == 0
-        && memcmp(lent.medium, full.medium, sizeof lent.medium) == 0
+        && memcmp(lent.medium, full.medium, sizeof lent.medium) == 0 && memcmp(lent.stage, full.stage, sizeof lent.stage) == 0
         && lent.state[ASCHEKNOPF_LEVEL] == before.state[ASCHEKNOPF_LEVEL] && full.state[ASCHEKNOPF_LEVEL] == 3
         && memcmp(lent.state + 1, full.state + 1, sizeof lent.state - 1) == 0;
 }
@@ -142,14 +143,18 @@ static uint32_t drawn(void)
     return seed >> 8;
 }
 
-/* A request of the tables with some bytes of its body altered, but not uDataLength: it goes on passing both headers' checks. */
+/* A request of the tables with some bytes of its body altered, but neither uDataLength nor uBufferLength: it goes on passing both headers'
+   checks. */
 static struct asked altered(void)
 {
     const uint8_t values[16] = {0, 1, 2, 3, 4, 5, 8, 9, 15, 16, 0x20, 0x30, 0x40, 0xE5, 0xEC, 0xFF};
     uint32_t row = drawn() % (GRANTS + REFUSALS);
-    struct asked a = row < GRANTS ? GRANTED[row] : REFUSED[row - GRANTS];
+    const struct asked of = row < GRANTS ? GRANTED[row] : REFUSED[row - GRANTS];
+    struct asked a = of;
     for (uint32_t n = drawn() % 4; n > 0; n--)
         a.begin[drawn() % 40] = values[drawn() % 16];
+    if (a.control == DOWNLOAD)
+        memcpy(a.begin, of.begin, 4);
     return a;
 }
 

@@ -1,6 +1,6 @@
-/* W-204's one statement: codes 1, 2, 3, 20, 22, 26, 27, 28 and 30 alter neither the state nor the medium, refused or granted, under either
-   header and at every level, but for the four counters of the phy that a granted code 22 with reset byte 1 names. Runs in the repository's
-   root. */
+/* W-204's one statement: codes 1, 2, 3, 20, 22, 26, 27, 28 and 30 alter neither the state nor the medium nor the stage, refused or granted,
+   under either header and at every level, but for the four counters of the phy that a granted code 22 with reset byte 1 names. Runs in the
+   repository's root. */
 #define PROGRAM "reporting.c"
 #include "headers.h"
 
@@ -19,7 +19,7 @@ static int place_of(uint8_t code)
     return place;
 }
 
-/* Sends what stands in the buffer: state and medium are as before, but for what a granted reset clears. */
+/* Sends what stands in the buffer: state, medium and stage are as before, but for what a granted reset clears. */
 static int leaves(const struct header *h, uint8_t code)
 {
     const int linux_too = h == &LINUX_HEADER;
@@ -31,7 +31,7 @@ static int leaves(const struct header *h, uint8_t code)
         resets[linux_too]++;
         memset(before.state + ASCHEKNOPF_PHY(body[0]) + ASCHEKNOPF_PHY_COUNTERS, 0, 16);
     }
-    return state_stays() && medium_stays();
+    return state_stays() && store_stays();
 }
 
 /* No counter of the phys is 0, and no sector is empty. */

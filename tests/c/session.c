@@ -18,7 +18,7 @@ static size_t handled(const char *text)
 {
     before = run;
     return ascheknopf_run((const uint8_t *)text, strlen(text), run.file, run.file_len, run.medium, run.medium_len,
-                          run.session, run.session_len, run.record, run.record_len);
+                          run.stage, run.stage_len, run.session, run.session_len, run.record, run.record_len);
 }
 
 /* Where request n stands in the session, from 1; its length comes first. */
@@ -51,6 +51,7 @@ static void sample(const char *name, const char *text, size_t count, const uint3
         same = same && line_is(n, codes[n - 1] == NONE ? 100 : 0, codes[n - 1]);
     check("sample: lines of the record", same);
     check("sample: the record's rest", all(run.record + count * LINE, sizeof run.record - count * LINE, 0x5A));
+    check("sample: the stage", stage_stays());
     check("sample: sector 3", all(run.medium + 3 * SECTOR, SECTOR, sector));
     check("sample: the other sectors", all(run.medium, 3 * SECTOR, 0) && all(run.medium + 4 * SECTOR, sizeof run.medium - 4 * SECTOR, 0));
 }
@@ -90,7 +91,7 @@ static void refused(const char *what, const char *text, uint32_t number)
     int same = opened(text) == number && handled(text) == GOOD && session_stays(0);
     for (size_t n = 1; n <= GOOD; n++)
         same = same && line_is(n, 107, NONE);
-    check(what, same && all(run.medium, sizeof run.medium, 0));
+    check(what, same && all(run.medium, sizeof run.medium, 0) && stage_stays());
 }
 
 static void damaged_openings(void)
@@ -135,20 +136,22 @@ static void damaged_sessions(void)
 /* A null pointer with length 0, for each argument and for all. */
 static void null_pointers(void)
 {
-    const uint8_t *text = (const uint8_t *)FULL;
+    const uint8_t *text = (const uint8_t *)FULL, *file = run.file;
+    uint8_t *medium = run.medium, *stage = run.stage, *session = run.session, *record = run.record;
     start("good");
-    check("null: all", ascheknopf_run(NULL, 0, NULL, 0, NULL, 0, NULL, 0, NULL, 0) == 0);
-    check("null: session", ascheknopf_run(text, 10, run.file, run.file_len, run.medium, run.medium_len, NULL, 0,
-                                          run.record, run.record_len) == 0);
-    check("null: record", ascheknopf_run(text, 10, run.file, run.file_len, run.medium, run.medium_len, run.session, run.session_len,
-                                         NULL, 0) == 0);
-    check("null: nothing is written", all(run.record, sizeof run.record, 0x5A) && all(run.medium, sizeof run.medium, 0));
-    check("null: file", ascheknopf_run(text, 10, NULL, 0, run.medium, run.medium_len, run.session, run.session_len,
-                                       run.record, run.record_len) == GOOD && line_is(1, 107, NONE) && line_is(GOOD, 107, NONE));
-    check("null: medium", ascheknopf_run(text, 10, run.file, run.file_len, NULL, 0, run.session, run.session_len,
-                                         run.record, run.record_len) == GOOD && line_is(1, 107, NONE) && line_is(GOOD, 107, NONE));
-    check("null: text", ascheknopf_run(NULL, 0, run.file, run.file_len, run.medium, run.medium_len, run.session, run.session_len,
-                                       run.record, run.record_len) == GOOD && line_is(1, 0, 0) && line_is(GOOD, 0, 0));
+    const size_t size = run.file_len, disks = run.medium_len, bytes = run.session_len, room = run.record_len;
+    check("null: all", ascheknopf_run(NULL, 0, NULL, 0, NULL, 0, NULL, 0, NULL, 0, NULL, 0) == 0);
+    check("null: session", ascheknopf_run(text, 10, file, size, medium, disks, stage, STAGE, NULL, 0, record, room) == 0);
+    check("null: record", ascheknopf_run(text, 10, file, size, medium, disks, stage, STAGE, session, bytes, NULL, 0) == 0);
+    check("null: nothing is written", all(record, room, 0x5A) && all(medium, disks, 0) && all(stage, sizeof run.stage, 0xC3));
+    check("null: file", ascheknopf_run(text, 10, NULL, 0, medium, disks, stage, STAGE, session, bytes, record, room) == GOOD
+                        && line_is(1, 107, NONE) && line_is(GOOD, 107, NONE));
+    check("null: medium", ascheknopf_run(text, 10, file, size, NULL, 0, stage, STAGE, session, bytes, record, room) == GOOD
+                          && line_is(1, 107, NONE) && line_is(GOOD, 107, NONE));
+    check("null: stage", ascheknopf_run(text, 10, file, size, medium, disks, NULL, 0, session, bytes, record, room) == GOOD
+                         && line_is(1, 106, NONE) && line_is(GOOD, 106, NONE));
+    check("null: text", ascheknopf_run(NULL, 0, file, size, medium, disks, stage, STAGE, session, bytes, record, room) == GOOD
+                        && line_is(1, 0, 0) && line_is(GOOD, 0, 0));
 }
 
 int main(void)
@@ -156,8 +159,8 @@ int main(void)
     const uint32_t good[GOOD] = {0};
     const uint32_t low[WRITES] = {0, 0, 4, 4, 0, 0, 4, 4, 0, 4, 2002, 4};
     const uint32_t high[WRITES] = {0, 0, 0, 0, 0, 2008, 0, 0, 2008, 2002, 2002, 0};
-    /* Document 01's example is in it: a sound code 1, a 5-byte buffer, and as the fifth a sound code 21. */
-    const uint32_t refusals[16] = {0, NONE, 2, 3, 4, 4, 4, 2002, 2003, 2005, 2006, 2008, 2009, 2010, 2013, 2014};
+    /* Document 01's example is in it: a sound code 1, a 5-byte buffer, and as the sixth a sound code 21. */
+    const uint32_t refusals[17] = {0, NONE, 4, 2, 3, 4, 4, 4, 2002, 2003, 2005, 2006, 2008, 2009, 2010, 2013, 2014};
 
     sample("good", RESTRICTED, GOOD, good, 0);
     front_page();
@@ -168,7 +171,7 @@ int main(void)
     sample("writes", FULL, WRITES, high, 0x5A);
     check("a read after a write", status_is(body(5), 1, SECTOR) && all(body(5) + 136, SECTOR, 0x5A));
     check("a reset of counters", word(body(12) + 4) == 3 && word(body(12) + 12) == 1);
-    sample("refusals", RESTRICTED, 16, refusals, 0);
+    sample("refusals", RESTRICTED, 17, refusals, 0);
     damaged_openings();
     damaged_sessions();
     null_pointers();

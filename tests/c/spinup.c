@@ -136,7 +136,7 @@ static void answers(const struct header *h)
     ask_under(h, &GRANTED[CLEAR], 0);
     uint32_t number = handled_under(h);
     memset(before.state + ASCHEKNOPF_PHY(0) + ASCHEKNOPF_PHY_COUNTERS, 0, 16);
-    check("counters cleared", number == 0 && word(lent.buffer + h->code) == 0 && state_stays() && medium_stays() && not_connected(h));
+    check("counters cleared", number == 0 && word(lent.buffer + h->code) == 0 && state_stays() && store_stays() && not_connected(h));
 }
 
 int main(void)

@@ -60,7 +60,7 @@ static inline int reads(const struct header *h)
 {
     const uint8_t *body = ask_under(h, &GRANTED[READ], 0);
     return handled_under(h) == 0 && word(lent.buffer + h->code) == 0 && body[50] == 0x50 && word(body + 132) == SECTOR
-        && all(body + 136, SECTOR, OTHER) && state_stays() && medium_stays();
+        && all(body + 136, SECTOR, OTHER) && state_stays() && store_stays();
 }
 
 static inline int not_connected(const struct header *h)

@@ -166,7 +166,7 @@ int main(void)
 {
     open_sample("good", 3);
     check("the byte behind the highest rate", HOLD == 104 && HOLD == ASCHEKNOPF_PHY_HIGHEST + 1 && ASCHEKNOPF_PHY_SIZE == HOLD + 1);
-    check("phy 1 and the rows", ASCHEKNOPF_PHY(1) == 177 + 105 && ASCHEKNOPF_ROW(0) == 3537 && ASCHEKNOPF_STATE_SIZE == 6181);
+    check("phy 1 and the rows", ASCHEKNOPF_PHY(1) == 177 + 105 && ASCHEKNOPF_ROW(0) == 3537 && ASCHEKNOPF_STATE_SIZE == 6190);
     for (size_t n = 0; n < PHYS; n++) {
         unnamed(n);
         fixed(n);

@@ -139,7 +139,7 @@ static void null_pointers(void)
 static size_t handled_first(const char *text)
 {
     return ascheknopf_run((const uint8_t *)text, strlen(text), run.file, run.file_len, run.medium, run.medium_len,
-                          run.session, run.session_len, run.record, run.record_len);
+                          run.stage, run.stage_len, run.session, run.session_len, run.record, run.record_len);
 }
 
 /* The first lines of the record, as many as the run gave; the rest, 5Ah, is otherwise refused if it is tallied too. The record stays. */
@@ -154,7 +154,7 @@ static void run_is(const char *what, size_t count, const uint64_t expected[5])
 
 static void runs_of_the_first_header(void)
 {
-    const uint64_t good[5] = {15, 15}, low[5] = {12, 5, 6, 1, 0}, high[5] = {12, 8, 0, 4, 0}, refusals[5] = {16, 1, 3, 11, 1};
+    const uint64_t good[5] = {15, 15}, low[5] = {12, 5, 6, 1, 0}, high[5] = {12, 8, 0, 4, 0}, refusals[5] = {17, 1, 4, 11, 1};
     const uint64_t cut[5] = {14, 14}, refused[5] = {15, 0, 0, 15, 0};
     start("good");
     run_is("good", handled_first(RESTRICTED), good);

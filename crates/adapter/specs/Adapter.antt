@@ -1,5 +1,5 @@
 -- The tables and counters of an adapter, and the rules that the file and the state share (document 01, "Adapter file" and
--- "From the state"; W-204). Assumes nothing.
+-- "From the state"; W-204, W-207). Assumes nothing.
 use mathlib.Core.Bool.{Bool, _&&_}
 use mathlib.Core.List.{List}
 use Prim.Native.Nat.{ℕ, _+_, _-_, _*_, _≤_}
@@ -11,9 +11,10 @@ use Rattle.phy.specs.Block.{noPhy, zeroPhy}
 use Rattle.fields.specs.Rules.{fieldsHold, phyZero}
 use Rattle.rows.specs.Row.{Row, zeroRow, zeroFrom}
 use Rattle.connectors.specs.Connector.{zeroConnector, pinoutsHold, connectorsPast}
+use Rattle.adapter.specs.Staged.{Staged, nothingStaged, runningWith}
 
--- tables and counters: the phy count p, the row count a, the driver info, 32 phys and 64 rows, the controller's configuration and status, and 32
--- connectors (107 asks that phys, rows and connectors be zero past p and a)
+-- tables and counters: the phy count p, the row count a, the driver info, 32 phys and 64 rows, the controller's configuration and status, 32
+-- connectors, and what firmware is staged (107 asks that phys, rows and connectors be zero past p and a)
 pub record Adapter : Type 0 where
   pub «phy_count» : ℕ
   pub «row_count» : ℕ
@@ -23,6 +24,7 @@ pub record Adapter : Type 0 where
   pub controller : List ℕ
   pub status : List ℕ
   pub connectors : List (List ℕ)
+  pub staged : Staged
 
 -- phy n of an adapter
 abbrev pub phyIn : Adapter → ℕ → Phy
@@ -40,7 +42,31 @@ withPhy ad n phy =
       controller = ad .controller;
       status = ad .status;
       connectors = ad .connectors;
+      staged = ad .staged;
     }
+
+-- the same adapter with another configuration of its controller, and with other firmware staged or none
+unfoldable pub withFirmware : Adapter → List ℕ → Staged → Adapter
+withFirmware ad controller staged =
+    record {
+      «phy_count» = ad .«phy_count»;
+      «row_count» = ad .«row_count»;
+      info = ad .info;
+      phys = ad .phys;
+      rows = ad .rows;
+      controller = controller;
+      status = ad .status;
+      connectors = ad .connectors;
+      staged = staged;
+    }
+
+-- the same with this staged
+abbrev pub withStaged : Adapter → Staged → Adapter
+withStaged ad staged = withFirmware ad (ad .controller) staged
+
+-- "the staged image becomes the running one"; "A commit leaves nothing staged"
+unfoldable pub madeCurrent : Adapter → Adapter
+madeCurrent ad = withFirmware ad (runningWith (ad .controller) (ad .staged .revisions)) nothingStaged
 
 -- "A refused opening returns the zero state, p = 0"
 unfoldable pub zeroAdapter : Adapter
@@ -54,6 +80,7 @@ zeroAdapter =
       controller = replicate 176 0;
       status = replicate 36 0;
       connectors = replicate 32 zeroConnector;
+      staged = nothingStaged;
     }
 
 -- "the phy count p (1–32)", "the row count a (0–64)"

@@ -1,4 +1,4 @@
--- What a request that sees no disk leaves (document 01, "Request", codes 21 and 22). Assumes nothing.
+-- What a request that sees no disk leaves (document 01, "Request", codes 21 and 22; W-207, a commit). Assumes nothing.
 use mathlib.Core.List.{List}
 use Prim.Native.Nat.{ℕ}
 use Rattle.adapter.specs.Adapter.{Adapter}

@@ -1,2 +1,3 @@
+pub mod Staged
 pub mod Adapter
 pub mod Changed

@@ -36,8 +36,8 @@ pub ruleset steps-loop = (steps-none, steps-more, phys-more, digest-done, steps-
 
 -- ---- one call after the other
 
-pub state-by : (a b r : ℕ) (s : List ℕ) → a ≡ digestOf 1 (part s 0 177) → b ≡ steps (phyStep (part s 177 3360)) a 32 → r ≡ digestOf b (part s 3537 2644)
+pub state-by : (a b r : ℕ) (s : List ℕ) → a ≡ digestOf 1 (part s 0 177) → b ≡ steps (phyStep (part s 177 3360)) a 32 → r ≡ digestOf b (part s 3537 2653)
     → r ≡ stateDigest s
 unfolding stateDigest
 state-by a b r s p q t =
-    t ∙ ap (λ (x : ℕ). digestOf x (part s 3537 2644)) (q ∙ ap (λ (x : ℕ). steps (phyStep (part s 177 3360)) x 32) p)
+    t ∙ ap (λ (x : ℕ). digestOf x (part s 3537 2653)) (q ∙ ap (λ (x : ℕ). steps (phyStep (part s 177 3360)) x 32) p)

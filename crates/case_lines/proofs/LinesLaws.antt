@@ -16,7 +16,7 @@ use Rattle.state.specs.State.{stateSize}
 use Rattle.case_words.specs.Fields.{fieldOf, numberOf, decimal, words, behind, upTo}
 use Rattle.case_words.specs.Patch.{patched, putAll, putWord, put, bytesOf}
 use Rattle.case_words.proofs.PatchLaws.{put-none, put-more}
-use Rattle.case_lines.specs.Lines.{countLine, patternAt, filledBy, blockLine, headStart, headerPut, requestBytes}
+use Rattle.case_lines.specs.Lines.{stagedLine, countLine, patternAt, filledBy, blockLine, headStart, headerPut, requestBytes}
 
 -- ---- a loop that fills with a pattern
 
@@ -74,6 +74,10 @@ pub count-by : (m s : List ℕ) (a b d : ℕ) → length m ≡ stateSize → a �
     → set (set (set m 0 (a % 256)) 1 (b % 256)) 2 (d % 256) ≡ countLine m s
 unfolding countLine
 count-by m s a b d h p q e = rw (p, q, e) (stores m 0 (fieldOf s 1 % 256 ∷ fieldOf s 2 % 256 ∷ fieldOf s 3 % 256 ∷ []) (omega arith))
+
+pub staged-by : (m x s : List ℕ) (a : ℕ) → length m ≡ stateSize → length x ≡ length m → a ≡ fieldOf s 1 → x ≡ splice m 6182 (patched (zeros 8) s 2) → set x 6181 (a % 256) ≡ stagedLine m s
+unfolding stagedLine
+staged-by m x s a h k p q = rw p (stores x 6181 (fieldOf s 1 % 256 ∷ []) (omega arith) ∙ ap (λ (l : List ℕ). splice l 6181 (fieldOf s 1 % 256 ∷ [])) q)
 
 -- ---- lines as they stand in stdin
 

@@ -35,6 +35,6 @@ phyDigest d phy = countersDigest (digestOf (digestOf d (part phy 0 64)) (part ph
 abbrev pub phyStep : List ℕ → ℕ → ℕ → ℕ
 phyStep phys d n = phyDigest d (part phys (105 * n) 105)
 
--- the level, the counts and the driver info, the phys, and what stands behind them: rows, configuration, status and connectors
+-- the level, the counts and the driver info, the phys, and what stands behind them: rows, configuration, status, connectors and what is staged
 unfoldable pub stateDigest : List ℕ → ℕ
-stateDigest s = digestOf (steps (phyStep (part s 177 3360)) (digestOf 1 (part s 0 177)) 32) (part s 3537 2644)
+stateDigest s = digestOf (steps (phyStep (part s 177 3360)) (digestOf 1 (part s 0 177)) 32) (part s 3537 2653)

@@ -23,18 +23,23 @@ rowLine state s = splice state (3537 + 20 * (fieldOf s 1 % 64)) (patched (zeros 
 unfoldable pub connectorLine : List ℕ → List ℕ → List ℕ
 connectorLine state s = splice state (5029 + 36 * (fieldOf s 1 % 32)) (patched (zeros 36) s 2)
 
+-- i STAGED AT:HEX ..: the byte that says whether an image is staged, and the revisions that have these bytes
+unfoldable pub stagedLine : List ℕ → List ℕ → List ℕ
+stagedLine state s = splice (splice state 6182 (patched (zeros 8) s 2)) 6181 (fieldOf s 1 % 256 ∷ [])
+
 -- l LEVEL PHYS ROWS: another level and other counts
 unfoldable pub countLine : List ℕ → List ℕ → List ℕ
 countLine state s = splice state 0 (fieldOf s 1 % 256 ∷ fieldOf s 2 % 256 ∷ fieldOf s 3 % 256 ∷ [])
 
--- the state after a line of a letter: y, w, c and l change it, and no other
+-- the state after a line of a letter: y, w, c, i and l change it, and no other
 unfoldable pub damaged : List ℕ → List ℕ → ℕ → List ℕ
 damaged state s c =
     cond (eqb c 121) (phyLine state s)
     (cond (eqb c 119) (rowLine state s)
     (cond (eqb c 99) (connectorLine state s)
+    (cond (eqb c 105) (stagedLine state s)
     (cond (eqb c 108) (countLine state s)
-    state)))
+    state))))
 
 -- byte i of a pattern: step × (i + 1) modulo 251
 abbrev pub patternAt : ℕ → ℕ → ℕ

@@ -2,6 +2,7 @@
 use crate::CONNECTORS;
 use crate::PHYS;
 use crate::ROWS;
+use crate::STAGED;
 use case_words::field;
 use case_words::patch;
 ghost use mathlib.Core.Path.{_≡_};
@@ -11,7 +12,7 @@ ghost use Rattle.laws.specs.Splice.{splice};
 ghost use Rattle.laws.specs.Clear.{zeros};
 ghost use Rattle.state.specs.State.{stateSize};
 ghost use Rattle.case_words.specs.Patch.{patched};
-ghost use Rattle.case_lines.specs.Lines.{phyLine, rowLine, connectorLine, countLine, damaged};
+ghost use Rattle.case_lines.specs.Lines.{phyLine, rowLine, connectorLine, stagedLine, countLine, damaged};
 
 // The words from word 2 on, over zeros.
 fn put_part(part: &mut [u8], s: &[u8])
@@ -50,6 +51,14 @@ fn connector_line(state: &mut [u8], s: &[u8])
     put_at(state, CONNECTORS + 36 * (field(s, 1) % 32) as usize, 36, s);
 }
 
+fn staged_line(state: &mut [u8], s: &[u8])
+    requires { ⌜ length (now state) ≡ stateSize ⌝ }
+    ensures { λ _. ⌜ now (state .exit) ≡ stagedLine (now (state .entry)) (now (s .entry)) ⌝ }
+{
+    put_at(state, STAGED + 1, 8, s);
+    state[STAGED] = (field(s, 1) % 256) as u8;
+}
+
 fn count_line(state: &mut [u8], s: &[u8])
     requires { ⌜ length (now state) ≡ stateSize ⌝ }
     ensures { λ _. ⌜ now (state .exit) ≡ countLine (now (state .entry)) (now (s .entry)) ⌝ }
@@ -74,6 +83,10 @@ pub fn damage(state: &mut [u8], s: &[u8], c: u8)
     }
     if c == b'c' {
         connector_line(state, s);
+        return;
+    }
+    if c == b'i' {
+        staged_line(state, s);
         return;
     }
     if c == b'l' {

@@ -61,11 +61,11 @@ fn mixed_phys(before: u64, phys: &[u8]) -> u64
     d
 }
 
-// The level, the counts and the driver info, the phys, and what stands behind them: rows, configuration, status and connectors.
+// The level, the counts and the driver info, the phys, and what stands behind them: rows, configuration, status, connectors and what is staged.
 pub fn state_digest(state: &[u8]) -> u64
     requires { ⌜ length (now state) ≡ stateSize ⌝ }
     ensures { λ r. ⌜ r ≡ stateDigest (now (state .entry)) ⌝ }
 {
     let before = mixed_phys(digest(1, &state[0..PHYS]), &state[PHYS..ROWS]);
-    digest(before, &state[ROWS..ROWS + 2644])
+    digest(before, &state[ROWS..ROWS + 2653])
 }

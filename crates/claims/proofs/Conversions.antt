@@ -1,13 +1,13 @@
 -- The proof that the conversions undo each other at every point of a run. Assumes nothing.
 use mathlib.Core.Path.{_≡_, refl, sym, _∙_, ap}
-use mathlib.Core.Bool.{true, cond}
+use mathlib.Core.Bool.{Bool, true, false, cond, false≢true}
 use mathlib.Core.List.{List}
 use Prim.Native.Nat.{ℕ, _+_, _<_, _≤_}
 use native.Mathlib.Omega.{arith}
 use lib.Dec.{eqb, ltb}
 use lib.ListN.{length}
-use borrow.Author.Tests.{le-ltb, lt-ltb, eqb-true, ltb-true}
-use Rattle.laws.specs.Choice.{either, came-then}
+use borrow.Author.Tests.{le-ltb, lt-ltb, eqb-true, eqb-false, ltb-true}
+use Rattle.laws.specs.Choice.{by-bool, either, came-then}
 use Rattle.laws.specs.Fill.{getD-padded}
 use Rattle.laws.specs.Splice.{part, splice, part-splice}
 use Rattle.codes.specs.Codes.{success, getScsiAddress, getDeviceAddress, noScsiAddress, noDeviceAddress}
@@ -22,7 +22,7 @@ use Rattle.lookups.specs.Conversion.{converted}
 use Rattle.lookups.specs.ScsiAddress.{scsiAddress}
 use Rattle.lookups.specs.DeviceAddress.{deviceAddress}
 use Rattle.state.specs.Open.{openedOf}
-use Rattle.state.proofs.AcceptedLaws.{Open, open-accepted, open-holds}
+use Rattle.state.proofs.AcceptedLaws.{Open, open-accepted}
 use Rattle.control_codes.specs.Table.{structureSize}
 use Rattle.service.specs.Serve.{Store, reported, changed, reportOf, served}
 use Rattle.header.proofs.SentLaws.{checks-room}
@@ -31,13 +31,13 @@ use Rattle.header.specs.Sent.{Request, formOf, controlOf, bodyOf}
 use Rattle.dispatch.specs.Request.{Point, Outcome, bufferNumber, pointNumber, answered, answeredAt, handled}
 use Rattle.claims.specs.Run.{exchangeOf, step, openedAt, wholeRun}
 use Rattle.claims.specs.LastWriter.{granted, Told, toldBy}
-use Rattle.claims.proofs.Ways.{tables-hold, replyWith, toldOf, told-served}
+use Rattle.claims.proofs.Ways.{tables-hold, replyWith, toldOf, told-number, told-served}
 use Rattle.claims.proofs.Moved.{rows-hold}
-use Rattle.claims.proofs.Reached.{number-zero, Reached, reached}
+use Rattle.claims.proofs.Reached.{refused-stays, Reached, reached}
 use Rattle.claims.specs.RoundTrip.{Sound, bodyShown, grants, RoundTrip, ConversionsClaim}
 use Rattle.claims.proofs.Demand3.{sized-opened}
 
--- a point whose state and medium are accepted, and whose rows have 16 and 4 bytes
+-- a point whose state, medium and stage are accepted, and whose rows have 16 and 4 bytes
 record AcceptedRows (p : Point) : Type 0 where
   number : pointNumber p ≡ 0
   sas : (i : ℕ) → i < p .state .adapter .«row_count» → length (rowAt (p .state .adapter .rows) i .sas) ≡ 16
@@ -123,7 +123,7 @@ module _ (p : Point) (w : AcceptedRows p) where
   device-handled r o = handled-sound p r getDeviceAddress (w .number) o
 
   hold : rowsHold rows a ≡ true
-  hold = rows-hold (p .state .adapter) (tables-hold (p .state) (number-state (p .state) (length (p .store .medium)) (w .number)))
+  hold = rows-hold (p .state .adapter) (tables-hold (p .state) (number-state (p .state) (length (p .store .medium)) (length (p .store .stage)) (w .number)))
 
   -- either leaves the point
   scsi-stays : (q : Request) → Sound p q getScsiAddress → step p q ≡ p
@@ -158,17 +158,17 @@ module _ (p : Point) (w : AcceptedRows p) where
 
 -- ---- every point of a run from an opening that accepts is such a point
 
-opened-rows : (text file : List ℕ) (store : Store) → openedOf text file (store .medium) .call ≡ 0 → AcceptedRows (openedAt text file store)
+opened-rows : (text file : List ℕ) (store : Store) → openedOf text file (store .medium) .call ≡ 0 → pointNumber (openedAt text file store) ≡ 0 → AcceptedRows (openedAt text file store)
 unfolding adapterOf fileRow
-opened-rows text file store h =
+opened-rows text file store h n =
     let o : Open text file (store .medium) = open-accepted text file (store .medium) h in
     let p : ℕ = phyCount file in
-    let n : ℕ = rowCount file in
-    let inside : (i : ℕ) → i < n → rowPlace p i + 20 ≤ length file = λ i l. row-within file p n i l (sym (o .read .size)) in
+    let a : ℕ = rowCount file in
+    let inside : (i : ℕ) → i < a → rowPlace p i + 20 ≤ length file = λ i l. row-within file p a i l (sym (o .read .size)) in
     record {
-      number = number-zero (openedOf text file (store .medium) .state) (length (store .medium)) (open-holds text file (store .medium) h) (rw (o .opened) (sym (o .disks)));
-      sas = rw (o .opened) (λ i l. ap (λ (x : Row). length (x .sas)) (getD-padded (fileRow file p) n 64 i zeroRow noRow l) ∙ length-sas file (rowPlace p i) (inside i l));
-      os = rw (o .opened) (λ i l. ap (λ (x : Row). length (x .os)) (getD-padded (fileRow file p) n 64 i zeroRow noRow l) ∙ length-os file (rowPlace p i) (inside i l));
+      number = n;
+      sas = rw (o .opened) (λ i l. ap (λ (x : Row). length (x .sas)) (getD-padded (fileRow file p) a 64 i zeroRow noRow l) ∙ length-sas file (rowPlace p i) (inside i l));
+      os = rw (o .opened) (λ i l. ap (λ (x : Row). length (x .os)) (getD-padded (fileRow file p) a 64 i zeroRow noRow l) ∙ length-os file (rowPlace p i) (inside i l));
     }
 
 -- rows never change
@@ -176,8 +176,22 @@ rows-reached : (start p : Point) → Reached start p → AcceptedRows start → 
 rows-reached start p i w =
     record { number = i .number ∙ w .number; sas = rw (i .moved .rows, i .moved .rowCount) (w .sas); os = rw (i .moved .rows, i .moved .rowCount) (w .os) }
 
+-- where no request is answered, none of the two is granted
+silent-trip : (p : Point) → eqb (pointNumber p) 0 ≡ false → RoundTrip p
+unfolding toldBy
+silent-trip p n = record { sas = λ q r _ _ g _. absurd (none q g); os = λ q r _ _ g _. absurd (none q g) }
+  where
+    none : (q : Request) → grants q (handled p q) → ⊥
+    none q g =
+        let z : (pointNumber p ≡ 0 → ⊥) = eqb-false (pointNumber p) 0 n in
+        false≢true (sym (told-number p q (pointNumber p) (omega arith)) ∙ rw (refused-stays p q n) at g)
+
 pub round-trip : ConversionsClaim
 round-trip text file store h requests =
     let start : Point = openedAt text file store in
     let p : Point = wholeRun text file store requests .point in
-    both-ways p (rows-reached start p (reached start (sized-opened text file store h) requests) (opened-rows text file store h))
+    let i : Reached start p = reached start (sized-opened text file store h) requests in
+    by-bool (λ (b : Bool). eqb (pointNumber start) 0 ≡ b → RoundTrip p)
+    (λ e. both-ways p (rows-reached start p i (opened-rows text file store h (eqb-true (pointNumber start) 0 e))))
+    (λ e. silent-trip p (rw (i .number) e))
+    (eqb (pointNumber start) 0) refl

@@ -137,7 +137,7 @@ module _ (text file : List ℕ) (store : Store) (h : openedOf text file (store .
 
 -- ---- where it refuses
 
-opened-zero : (text file medium : List ℕ) → (openedOf text file medium .call ≡ 0 → ⊥) → openedOf text file medium .state ≡ zeroState
+pub opened-zero : (text file medium : List ℕ) → (openedOf text file medium .call ≡ 0 → ⊥) → openedOf text file medium .state ≡ zeroState
 unfolding openedOf openedText openedFile
 opened-zero text file medium =
     either Zero (eqb (textLevel text .call) 0)
@@ -253,5 +253,5 @@ claim low high file store requests =
       higher = one-run high file store (givenBoth low high file store requests);
       comparison = λ p q h.
           let c = two-runs (openedAt low file store) (openedAt high file store) requests (texts-alike low high file store p q h) in
-          record { tables = ap (λ (ad : Adapter). stateWith (higherRun low high file store requests .point .state .level) ad) (c .related .adapter); disks = c .related .store; replies = c .same };
+          record { tables = ap (λ (ad : Adapter). stateWith (higherRun low high file store requests .point .state .level) ad) (c .related .adapter); store = c .related .store; replies = c .same };
     }

@@ -133,7 +133,7 @@ module _ (ad : Adapter) (store : Store) (body : List ℕ) (h : length (store .me
             (ap (λ (x : List ℕ). sector x (s .number)) (other-disk (store .medium) (onto .disk) to inside size (s .phy) d))
 
     disk-store : OnStore ad told store (withMedium store (splice (store .medium) (8192 * to) (onto .disk)))
-    disk-store = record { size = length-splice (store .medium) (8192 * to) (onto .disk) (rw size inside); sectors = disk-sectors }
+    disk-store = record { size = length-splice (store .medium) (8192 * to) (onto .disk) (rw size inside); stage = refl; sectors = disk-sectors }
 
     disk-code : onto .code ≤ 2014
     disk-code =

@@ -60,9 +60,10 @@ pub record OnTables (ad : Adapter) (t : Told) (bd : Adapter) : Type 0 where
   pub maxima : (n : ℕ) → programmedMaximum (phyIn bd n) ≡ after (rateWriter 3) n t (programmedMaximum (phyIn ad n))
   pub spinup : (n : ℕ) → phyIn bd n .«spinup_hold» ≡ after spinupWriter n t (phyIn ad n .«spinup_hold»)
 
--- on what is lent beside them: the disks keep their length, and the sectors are as the request tells
+-- on what is lent beside them: disks and stage keep their lengths, and the sectors are as the request tells
 pub record OnStore (ad : Adapter) (t : Told) (before next : Store) : Type 0 where
   pub size : length (next .medium) ≡ length (before .medium)
+  pub stage : length (next .stage) ≡ length (before .stage)
   pub sectors : (s : Sector) → sectorIn next s ≡ after (sectorWriter (selectsIn ad)) s t (sectorIn before s)
 
 pub record Effect (ad : Adapter) (before : Store) (t : Told) (bd : Adapter) (next : Store) : Type 0 where
@@ -89,7 +90,7 @@ module _ (ad : Adapter) (t : Told) where
       }
 
   pub store-kept : (store : Store) → Quiet (sectorWriter (selectsIn ad)) t → OnStore ad t store store
-  store-kept store q = record { size = refl; sectors = λ s. sym (q s _) }
+  store-kept store q = record { size = refl; stage = refl; sectors = λ s. sym (q s _) }
 
   -- of what was not granted
   pub no-effect : (store : Store) → t .granted ≡ false → Effect ad store t ad store

@@ -5,6 +5,7 @@ pub mod Moved
 pub mod Effect
 pub mod PhyEffects
 pub mod DiskEffect
+pub mod FirmwareEffect
 pub mod Reached
 pub mod Demand3
 pub mod Conversions
@@ -12,6 +13,7 @@ pub mod Sameness
 pub mod PastBoth
 pub mod ReadOnly
 pub mod Reporting
+pub mod Firmware
 pub mod SpinUp
 pub mod OwnCodes
 pub mod Lines

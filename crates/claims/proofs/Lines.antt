@@ -20,7 +20,8 @@ use Rattle.header.specs.Sent.{Request, formOf, controlOf, bodyOf, refusedByLeve
 use Rattle.header.proofs.FormLaws.{code-shown, header-kept}
 use Rattle.header.proofs.SentLaws.{form-room, checks-other}
 use Rattle.service.specs.Serve.{Served, served}
-use Rattle.dispatch.specs.Request.{Point, Outcome, Pending, stateNumber, bufferNumber, callNumber, pointNumber, replied, answered, answeredAt, handled}
+use Rattle.firmware.specs.Firmware.{stageSize}
+use Rattle.dispatch.specs.Request.{Point, Outcome, Pending, stageNumber, stateNumber, bufferNumber, callNumber, pointNumber, replied, answered, answeredAt, handled}
 use Rattle.dispatch.proofs.Laws.{heard-buffer}
 use Rattle.claims.specs.Run.{Exchange, exchangeOf, denied}
 use Rattle.claims.specs.LastWriter.{granted}
@@ -41,10 +42,11 @@ module _ (p : Point) (r : Request) where
   ownLine = lineOf (exchangeOf r (handled p r))
 
   number-small : callNumber p r ≤ 107
-  unfolding bufferNumber stateNumber
+  unfolding bufferNumber stateNumber stageNumber
   number-small =
       either Small (eqb (pointNumber p) 0) (either Small (ltb (length (r .buffer)) (formOf r .size)) (omega arith) (omega arith))
-      (either Small (stateHolds (p .state)) (either Small (eqb (mediumSize (p .state .adapter)) (length (p .store .medium))) (omega arith) (omega arith)) (omega arith))
+      (either Small (stateHolds (p .state)) (either Small (eqb (mediumSize (p .state .adapter)) (length (p .store .medium)))
+      (either Small (eqb (length (p .store .stage)) stageSize) (omega arith) (omega arith)) (omega arith)) (omega arith))
     where
       Small : ℕ → Type 0
       Small n = n ≤ 107

@@ -12,7 +12,8 @@ use Rattle.phy.specs.declared.Phy.{Phy}
 use Rattle.phy.proofs.KeptLaws.{Kept, kept-refl, kept-trans}
 use Rattle.fields.specs.Rules.{fieldsHold}
 use Rattle.rows.specs.Row.{rowsHold}
-use Rattle.adapter.specs.Adapter.{Adapter, phyIn, withPhy, countsHold, fieldsAll, zeroPast}
+use Rattle.adapter.specs.Staged.{Staged, stagedHolds}
+use Rattle.adapter.specs.Adapter.{Adapter, phyIn, withPhy, withFirmware, countsHold, fieldsAll, zeroPast}
 use Rattle.adapter.proofs.StoreLaws.{phy-stored, phy-other, counts-stored, rows-stored, fields-at, fields-stored, zero-stored, phys-bound}
 use Rattle.link.specs.Rule.{negotiatedHolds}
 use Rattle.link.specs.All.{negotiatedAll}
@@ -99,12 +100,15 @@ module _ (ad : Adapter) (h : adapterHolds ad ≡ true) where
   pub few-phys : ad .«phy_count» ≤ 32
   few-phys = phys-bound (ad .«phy_count») (ad .«row_count») true (sym counted) refl
 
-  tables : (fieldsAll ad && negotiatedAll ad && rowsHold (ad .rows) (ad .«row_count») ≡ true) × (zeroPast ad ≡ true)
+  -- phys and rows; zero past p and a; what is staged
+  tables : (fieldsAll ad && negotiatedAll ad && rowsHold (ad .rows) (ad .«row_count») ≡ true) × (zeroPast ad ≡ true) × (stagedHolds (ad .staged) ≡ true)
   unfolding adapterHolds tablesHold
   tables =
-      let t : tablesHold ad ≡ true = both-right (countsHold (ad .«phy_count») (ad .«row_count»)) (tablesHold ad) h in (
-        both-left (fieldsAll ad && negotiatedAll ad && rowsHold (ad .rows) (ad .«row_count»)) (zeroPast ad) t,
-        both-right (fieldsAll ad && negotiatedAll ad && rowsHold (ad .rows) (ad .«row_count»)) (zeroPast ad) t,
+      let t : tablesHold ad ≡ true = both-right (countsHold (ad .«phy_count») (ad .«row_count»)) (tablesHold ad) h in
+      let z = both-left (fieldsAll ad && negotiatedAll ad && rowsHold (ad .rows) (ad .«row_count») && zeroPast ad) (stagedHolds (ad .staged)) t in (
+        both-left (fieldsAll ad && negotiatedAll ad && rowsHold (ad .rows) (ad .«row_count»)) (zeroPast ad) z,
+        both-right (fieldsAll ad && negotiatedAll ad && rowsHold (ad .rows) (ad .«row_count»)) (zeroPast ad) z,
+        both-right (fieldsAll ad && negotiatedAll ad && rowsHold (ad .rows) (ad .«row_count») && zeroPast ad) (stagedHolds (ad .staged)) t,
       )
 
   pub rows-hold : rowsHold (ad .rows) (ad .«row_count») ≡ true
@@ -134,8 +138,22 @@ module _ (ad : Adapter) (h : adapterHolds ad ≡ true) where
         let m : n < length (ad .phys) = rw z (omega (arith, few-phys)) in
         let bd : Adapter = withPhy ad n phy in
         both (countsHold (ad .«phy_count») (ad .«row_count»)) (tablesHold bd) counted
+        (both (fieldsAll bd && negotiatedAll bd && rowsHold (ad .rows) (ad .«row_count») && zeroPast bd) (stagedHolds (ad .staged))
         (both (fieldsAll bd && negotiatedAll bd && rowsHold (ad .rows) (ad .«row_count»)) (zeroPast bd)
         (both (fieldsAll bd && negotiatedAll bd) (rowsHold (ad .rows) (ad .«row_count»))
         (both (fieldsAll bd) (negotiatedAll bd) (fields-stored ad n phy m fields f) (negotiated-stored ad n phy m negotiated g))
         rows-hold)
         (zero-stored ad n phy k ∙ tables .1))
+        (tables .2))
+
+  -- firmware staged, or made current
+  pub firmware-holds : (controller : List ℕ) (staged : Staged) → stagedHolds staged ≡ true → adapterHolds (withFirmware ad controller staged) ≡ true
+  unfolding adapterHolds tablesHold withFirmware fieldsAll negotiatedAll zeroPast
+  firmware-holds controller staged s =
+      both (countsHold (ad .«phy_count») (ad .«row_count»)) _ counted
+      (both (fieldsAll ad && negotiatedAll ad && rowsHold (ad .rows) (ad .«row_count») && zeroPast ad) (stagedHolds staged)
+      (both (fieldsAll ad && negotiatedAll ad && rowsHold (ad .rows) (ad .«row_count»)) (zeroPast ad) (tables .0) (tables .1)) s)
+
+pub moved-firmware : (ad : Adapter) (controller : List ℕ) (staged : Staged) → Moved ad (withFirmware ad controller staged)
+unfolding withFirmware
+moved-firmware ad controller staged = record { count = refl; rowCount = refl; rows = refl; size = refl; phys = λ n _. kept-refl (phyIn ad n) }

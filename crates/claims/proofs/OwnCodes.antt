@@ -22,6 +22,8 @@ use Rattle.lookups.specs.Signature.{signatureOf, sataSignature}
 use Rattle.lookups.specs.Conversion.{converted}
 use Rattle.lookups.specs.ScsiAddress.{scsiAddress}
 use Rattle.lookups.specs.DeviceAddress.{deviceAddress}
+use Rattle.firmware.specs.Firmware.{Downloaded, validated, committed}
+use Rattle.firmware.proofs.Laws.{download-by}
 use Rattle.service.specs.Serve.{Store, Served, reportOf, served}
 use Rattle.claims.proofs.Ways.{Own, served-by}
 use Rattle.claims.proofs.PhyEffects.{set-by, errors-by}
@@ -78,9 +80,11 @@ passed-own ad medium body = passed-by ad medium body (λ (p : Passed). Own (p .c
 -- ---- every code
 
 pub served-own : (ad : Adapter) (store : Store) (control : ℕ) (body : List ℕ) → Own (served ad store control body .code)
+unfolding validated committed
 served-own ad store control body =
     served-by ad store control body (λ (x : Served). Own (x .code))
     (λ _. set-by ad body (λ (c : Changed). Own (c .code)) (λ code _ own. own) (λ _ _. success-own))
     (λ _. errors-by ad body (λ (c : Changed). Own (c .code)) (λ code _ own. own) (λ _ _. success-own) (λ _. success-own))
     (λ _. passed-own ad (store .medium) body)
-    (λ _ _ _. report-own ad control body)
+    (λ _. download-by ad (store .stage) body (λ (d : Downloaded). Own (d .code)) (λ code o. o .1) (λ _ _ _. success-own) (λ _ _ _. success-own))
+    (λ _ _ _ _. report-own ad control body)

@@ -1,5 +1,5 @@
 -- One request, by the effect of its code; and the points that a run reaches from where it starts. A state that 107 accepts goes on being accepted:
--- the number of the state and the medium is the same after a request as before it. Assumes nothing.
+-- the number of the state, the medium and the stage is the same after a request as before it. Assumes nothing.
 use mathlib.Core.Path.{_≡_, refl, sym, _∙_, ap}
 use mathlib.Core.Bool.{Bool, true, false}
 use mathlib.Core.List.{List}
@@ -10,17 +10,18 @@ use lib.ListN.{length}
 use borrow.Author.Tests.{eq-eqb, eqb-true}
 use Rattle.laws.specs.Choice.{by-bool, both, both-left, both-right}
 use Rattle.laws.specs.Runs.{ends, kept}
-use Rattle.codes.specs.Codes.{setPhyInfo, getLinkErrors, stpPassthru}
+use Rattle.codes.specs.Codes.{firmwareDownload, setPhyInfo, getLinkErrors, stpPassthru}
 use Rattle.adapter.specs.Adapter.{Adapter, mediumSize}
 use Rattle.passthrough.specs.Passthrough.{passthrough}
+use Rattle.firmware.specs.Firmware.{stageSize, loadFirmware}
 use Rattle.set_phy_info.specs.SetPhyInfo.{setInfo}
 use Rattle.link_errors.specs.LinkErrors.{linkErrors}
 use Rattle.state.specs.State.{State, adapterHolds, stateHolds}
 use Rattle.service.proofs.Laws.{passthrough-lent}
-use Rattle.service.specs.Serve.{Store, Served, changed, passed, served}
-use Rattle.dispatch.proofs.Laws.{number-state, number-medium}
+use Rattle.service.specs.Serve.{Store, Served, changed, passed, downloaded, served}
+use Rattle.dispatch.proofs.Laws.{number-state, number-medium, number-stage}
 use Rattle.header.specs.Sent.{Request, formOf, controlOf, bodyOf}
-use Rattle.dispatch.specs.Request.{Point, Outcome, stateNumber, bufferNumber, pointNumber, untouched, handled}
+use Rattle.dispatch.specs.Request.{Point, Outcome, stageNumber, stateNumber, bufferNumber, pointNumber, untouched, handled}
 use Rattle.claims.specs.Run.{exchangeOf, step, entryOf}
 use Rattle.claims.specs.LastWriter.{toldBy}
 use Rattle.claims.proofs.Steps.{level-kept}
@@ -29,6 +30,7 @@ use Rattle.claims.proofs.Moved.{Sized, Moved, moved-refl, moved-trans, 
 use Rattle.claims.proofs.Effect.{Effect, Does, no-effect, report-effect}
 use Rattle.claims.proofs.PhyEffects.{set-effect, errors-effect}
 use Rattle.claims.proofs.DiskEffect.{passthrough-effect}
+use Rattle.claims.proofs.FirmwareEffect.{download-effect}
 
 -- ---- one request
 
@@ -54,7 +56,8 @@ module _ (p : Point) (r : Request) where
       (λ e. done long getLinkErrors e (changed store (linkErrors ad body)) (errors-effect ad store body (k .holds) z))
       (λ e. done long stpPassthru e (passed ad store (passthrough ad (store .medium) body))
       (passthrough-effect ad store body (k .disks) (passthrough-lent (controlOf r) (length body) body e (k .room))))
-      (λ n _ m. report-effect ad _ store n m)
+      (λ e. done long firmwareDownload e (downloaded store (loadFirmware ad (store .stage) body)) (download-effect ad store body (k .holds) (k .stage)))
+      (λ n _ m _. report-effect ad _ store n m)
 
   pub request-effect : Sized (p .state .adapter) → EffectOf (handled p r)
   request-effect z =
@@ -63,11 +66,11 @@ module _ (p : Point) (r : Request) where
       (λ code h k long. no-effect (p .state .adapter) _ (p .store) (told-refused p r code h k long))
       (λ _ long k. served-effect long z k)
 
--- ---- the number of the state and the medium
+-- ---- the number of the state, the medium and the stage
 
-pub number-zero : (s : State) (medium : ℕ) → stateHolds s ≡ true → medium ≡ mediumSize (s .adapter) → stateNumber s medium ≡ 0
-unfolding stateNumber
-number-zero s medium h e = rw (h, eq-eqb (mediumSize (s .adapter)) medium (sym e)) refl
+pub number-zero : (s : State) (medium stage : ℕ) → stateHolds s ≡ true → medium ≡ mediumSize (s .adapter) → stage ≡ stageSize → stateNumber s medium stage ≡ 0
+unfolding stateNumber stageNumber
+number-zero s medium stage h e f = rw (h, eq-eqb (mediumSize (s .adapter)) medium (sym e), eq-eqb stage stageSize f) refl
 
 -- a request to a point that is refused leaves it
 pub refused-stays : (p : Point) (r : Request) → eqb (pointNumber p) 0 ≡ false → handled p r ≡ untouched (pointNumber p) p r
@@ -79,15 +82,16 @@ unfolding stateHolds
 number-step p r z =
     by-bool (λ (b : Bool). eqb (pointNumber p) 0 ≡ b → pointNumber (handled p r .point) ≡ pointNumber p)
     (λ e. let n : pointNumber p ≡ 0 = eqb-true (pointNumber p) 0 e in
-    let h : stateHolds (p .state) ≡ true = number-state (p .state) (length (p .store .medium)) n in
+    let h : stateHolds (p .state) ≡ true = number-state (p .state) (length (p .store .medium)) (length (p .store .stage)) n in
     let f = request-effect p r z in
     let q : Point = handled p r .point in
     let c = f .tables .moved .count in
     let m = f .store .size in
-    let d = number-medium (p .state) (length (p .store .medium)) n in
+    let d = number-medium (p .state) (length (p .store .medium)) (length (p .store .stage)) n in
+    let g : length (q .store .stage) ≡ stageSize = f .store .stage ∙ number-stage (p .state) (length (p .store .medium)) (length (p .store .stage)) n in
     let a : leb (q .state .level .0) 3 ≡ true = rw (level-kept p r) (both-left (leb (p .state .level .0) 3) (adapterHolds (p .state .adapter)) h) in
     let b : adapterHolds (q .state .adapter) ≡ true = f .tables .holds (both-right (leb (p .state .level .0) 3) (adapterHolds (p .state .adapter)) h) in
-    number-zero (q .state) (length (q .store .medium)) (both (leb (q .state .level .0) 3) (adapterHolds (q .state .adapter)) a b) (omega arith) ∙ sym n)
+    number-zero (q .state) (length (q .store .medium)) (length (q .store .stage)) (both (leb (q .state .level .0) 3) (adapterHolds (q .state .adapter)) a b) (omega arith) g ∙ sym n)
     (λ e. ap (λ (o : Outcome). pointNumber (o .point)) (refused-stays p r e))
     (eqb (pointNumber p) 0) refl
 

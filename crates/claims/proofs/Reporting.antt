@@ -1,4 +1,4 @@
--- The proof that the codes that report leave state and medium as they were, but for the reset of counters, and that each code that is served is
+-- The proof that the codes that report leave state, medium and stage as they were, but for the reset of counters, and that each code that is served is
 -- in one of the two lists. Assumes nothing.
 use mathlib.Core.Path.{_≡_, refl}
 use mathlib.Core.Bool.{Bool, true, false, cond, _&&_, false≢true}
@@ -83,7 +83,8 @@ module _ (p : Point) (r : Request) where
       (λ e. let n : false ≡ true = rw e at m in absurd (false≢true n))
       (errors-left long)
       (λ e. let n : false ≡ true = rw e at m in absurd (false≢true n))
-      (λ _ n _. left-other p _ (rw (ne-eqb (controlOf r) getLinkErrors n) refl))
+      (λ e. let n : false ≡ true = rw e at m in absurd (false≢true n))
+      (λ _ n _ _. left-other p _ (rw (ne-eqb (controlOf r) getLinkErrors n) refl))
 
 -- ---- the codes that are served
 

@@ -57,13 +57,13 @@ module _ (level : Level) (ad : Adapter) (store : Store) (r : Request) (z : point
 
 -- ---- both headers
 
--- what passes the checks of state and medium at a level does so at Full
+-- what passes the checks of state, medium and stage at a level does so at Full
 number-full : (level : Level) (ad : Adapter) (store : Store) → pointNumber (atLevel level ad store) ≡ 0 → pointNumber (atLevel full ad store) ≡ 0
 unfolding stateHolds
 number-full level ad store z =
-    let h : stateHolds (stateWith level ad) ≡ true = number-state (stateWith level ad) (length (store .medium)) z in
+    let h : stateHolds (stateWith level ad) ≡ true = number-state (stateWith level ad) (length (store .medium)) (length (store .stage)) z in
     let b : level .0 ≤ 3 = leb-true (level .0) 3 (both-left (leb (level .0) 3) (adapterHolds ad) h) in
-    sym (number-same ad level full b (omega arith) (length (store .medium))) ∙ z
+    sym (number-same ad level full b (omega arith) (length (store .medium)) (length (store .stage))) ∙ z
 
 pub sameness : Sameness
 sameness level ad store control linuxBuffer srbBuffer z hq hr t =

@@ -68,7 +68,8 @@ module _ (p : Point) (n : ℕ) (h : adapterHolds (p .state .adapter) ≡ true) (
         (λ _. passed-by (p .state .adapter) (p .store .medium) (bodyOf r) (λ (x : Passed). Silent (replyWith p r (passed (p .state .adapter) (p .store) x)))
         (refused-silent long)
         (λ _ q. let d : true ≡ false = sym q ∙ rw s (not-connected e (connectionRate (bodyOf r)) (destinationOf (bodyOf r))) in absurd (true≢false d)))
-        (λ _ _ m. absurd (m c)))
+        (λ q. absurd (omega (arith, c, q)))
+        (λ _ _ m _. absurd (m c)))
 
 -- ---- code 21
 

@@ -47,14 +47,15 @@ pub record Same (o p : Outcome) : Type 0 where
   pub store : o .point .store ≡ p .point .store
   pub buffer : o .buffer ≡ p .buffer
 
-same-cond : (t : Bool) {a b c d : Outcome} → (t ≡ true → Same a c) → Same b d → Same (cond t a b) (cond t c d)
-same-cond true p q = p refl
-same-cond false p q = q
+-- what two tests that come out the same choose
+pub alike : {A : Type 0} (R : A → A → Type 0) (t : Bool) {a b c d : A} → (t ≡ true → R a c) → R b d → R (cond t a b) (cond t c d)
+alike R true p q = p refl
+alike R false p q = q
 
--- the number of the state and the medium does not go by the level
-pub number-same : (ad : Adapter) (l m : Level) → l .0 ≤ m .0 → m .0 ≤ 3 → (n : ℕ) → stateNumber (stateWith l ad) n ≡ stateNumber (stateWith m ad) n
+-- the number of the state, the medium and the stage does not go by the level
+pub number-same : (ad : Adapter) (l m : Level) → l .0 ≤ m .0 → m .0 ≤ 3 → (n k : ℕ) → stateNumber (stateWith l ad) n k ≡ stateNumber (stateWith m ad) n k
 unfolding stateNumber stateHolds
-number-same ad l m h b n = rw (le-leb (l .0) 3 (omega arith), le-leb (m .0) 3 b) refl
+number-same ad l m h b n k = rw (le-leb (l .0) 3 (omega arith), le-leb (m .0) 3 b) refl
 
 module _ (ad : Adapter) (store : Store) (r : Request) (l m : Level) (h : l .0 ≤ m .0) (b : m .0 ≤ 3) where
   abbrev low : Point
@@ -72,7 +73,7 @@ module _ (ad : Adapter) (store : Store) (r : Request) (l m : Level) (h : l .0 �
   unfolding denied handled
   same-levels n =
       rw (← number-same ad l m h b)
-      (same-cond (eqb (callNumber low r) 0) (λ a. served-same (rw a at n)) (record { call = refl; adapter = refl; store = refl; buffer = refl }))
+      (alike Same (eqb (callNumber low r) 0) (λ a. served-same (rw a at n)) (record { call = refl; adapter = refl; store = refl; buffer = refl }))
 
 -- the step of two points that differ in the level alone
 pub same-step : (p q : Point) (r : Request) → p .state .adapter ≡ q .state .adapter → p .store ≡ q .store → p .state .level .0 ≤ q .state .level .0

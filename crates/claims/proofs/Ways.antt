@@ -8,18 +8,19 @@ use lib.Dec.{eqb, leb}
 use lib.ListN.{length, take}
 use borrow.Author.Tests.{ne-eqb, eqb-true, eqb-false}
 use Rattle.laws.specs.Choice.{either-by, both-right}
-use Rattle.codes.specs.Codes.{setPhyInfo, getLinkErrors, stpPassthru, success, writeAttempted}
+use Rattle.codes.specs.Codes.{firmwareDownload, setPhyInfo, getLinkErrors, stpPassthru, success, writeAttempted}
 use Rattle.level.specs.declared.Level.{Level}
 use Rattle.adapter.specs.Adapter.{Adapter, mediumSize}
 use Rattle.set_phy_info.specs.SetPhyInfo.{setInfo}
 use Rattle.link_errors.specs.LinkErrors.{linkErrors}
 use Rattle.passthrough.specs.Passthrough.{passthrough}
+use Rattle.firmware.specs.Firmware.{stageSize, loadFirmware}
 use Rattle.state.specs.State.{State, adapterHolds, stateHolds}
 use Rattle.control_codes.specs.Table.{structureSize, dataSize}
 use Rattle.header.proofs.FormLaws.{code-shown, header-kept, body-shown}
 use Rattle.header.proofs.SentLaws.{form-room, checks-small, checks-room}
-use Rattle.service.specs.Serve.{Store, Served, reported, changed, passed, reportOf, served}
-use Rattle.dispatch.proofs.Laws.{number-state, number-medium, heard-number, heard-buffer}
+use Rattle.service.specs.Serve.{Store, Served, reported, changed, passed, downloaded, reportOf, served}
+use Rattle.dispatch.proofs.Laws.{number-state, number-medium, number-stage, heard-number, heard-buffer}
 use Rattle.header.specs.Sent.{Request, formOf, controlOf, bodyOf, checksCode}
 use Rattle.dispatch.specs.Request.{Point, Outcome, pointNumber, callNumber, untouched, inBuffer, refusedRequest, answered, replied, answeredAt, handled}
 use Rattle.claims.specs.Run.{exchangeOf}
@@ -31,14 +32,16 @@ pub served-by : (ad : Adapter) (store : Store) (control : ℕ) (body : List ℕ)
     → (control ≡ setPhyInfo → P (changed store (setInfo ad body)))
     → (control ≡ getLinkErrors → P (changed store (linkErrors ad body)))
     → (control ≡ stpPassthru → P (passed ad store (passthrough ad (store .medium) body)))
-    → ((control ≡ setPhyInfo → ⊥) → (control ≡ getLinkErrors → ⊥) → (control ≡ stpPassthru → ⊥) → P (changed store (reported ad (reportOf ad control body))))
+    → (control ≡ firmwareDownload → P (downloaded store (loadFirmware ad (store .stage) body)))
+    → ((control ≡ setPhyInfo → ⊥) → (control ≡ getLinkErrors → ⊥) → (control ≡ stpPassthru → ⊥) → (control ≡ firmwareDownload → ⊥) → P (changed store (reported ad (reportOf ad control body))))
     → P (served ad store control body)
 unfolding served
-served-by ad store control body P set errors pass report =
+served-by ad store control body P set errors pass load report =
     either-by P (eqb control setPhyInfo) (λ h. set (eqb-true control setPhyInfo h))
     (λ n. either-by P (eqb control getLinkErrors) (λ h. errors (eqb-true control getLinkErrors h))
     (λ l. either-by P (eqb control stpPassthru) (λ h. pass (eqb-true control stpPassthru h))
-    (λ m. report (eqb-false control setPhyInfo n) (eqb-false control getLinkErrors l) (eqb-false control stpPassthru m))))
+    (λ m. either-by P (eqb control firmwareDownload) (λ h. load (eqb-true control firmwareDownload h))
+    (λ k. report (eqb-false control setPhyInfo n) (eqb-false control getLinkErrors l) (eqb-false control stpPassthru m) (eqb-false control firmwareDownload k)))))
 
 -- a return code of a code's own checks: small, and not that of a denied request
 abbrev pub Own : ℕ → Type 0
@@ -48,6 +51,7 @@ Own code = (code ≤ 2014) × (code ≡ writeAttempted → ⊥)
 pub record Ready (ad : Adapter) (store : Store) (control : ℕ) (body : List ℕ) : Type 0 where
   pub holds : adapterHolds ad ≡ true
   pub disks : length (store .medium) ≡ mediumSize ad
+  pub stage : length (store .stage) ≡ stageSize
   pub room : structureSize control + dataSize control body ≤ length body
 
 -- ---- a request
@@ -77,8 +81,9 @@ handled-by p r P number refuse serve =
     either-by (λ x. P (replied (formOf r) level x)) (eqb (checksCode level r) success)
     (λ y. let passes : checksCode level r ≡ success = eqb-true (checksCode level r) success y in
     serve passes long (record {
-      holds = tables-hold (p .state) (number-state (p .state) (length (p .store .medium)) n);
-      disks = number-medium (p .state) (length (p .store .medium)) n;
+      holds = tables-hold (p .state) (number-state (p .state) (length (p .store .medium)) (length (p .store .stage)) n);
+      disks = number-medium (p .state) (length (p .store .medium)) (length (p .store .stage)) n;
+      stage = number-stage (p .state) (length (p .store .medium)) (length (p .store .stage)) n;
       room = checks-room level r passes;
     }))
     (λ y. let c : (checksCode level r ≡ 0 → ⊥) = eqb-false (checksCode level r) success y in

@@ -1,4 +1,4 @@
--- Demand 3, in one piece (document 01, "Two runs and the last writer"; W-201: "demand 3's lists may hold" requests under either header). Its proof is `claim` in proofs/Demand3.antt. That each request of a run is
+-- Demand 3, in one piece (document 01, "Two runs and the last writer"; W-201: "demand 3's lists may hold" requests under either header; W-207: the stage and the running revisions "belong to what is compared"). Its proof is `claim` in proofs/Demand3.antt. That each request of a run is
 -- answered and carried out as document 01 defines stands in `run` (Run.antt), which is made of `openedOf` and `handled`; the contracts of
 -- `state::open`, `dispatch::request` and `dispatch::request_linux` equate the calls with these two. Assumes nothing.
 use mathlib.Core.Path.{_≡_}
@@ -19,7 +19,7 @@ use Rattle.header.specs.Sent.{Request}
 use Rattle.claims.specs.Run.{Entry, End, wholeRun, exchanges, requestsIn, notDenied, denial}
 use Rattle.claims.specs.LastWriter.{Sector, sectorIn, lastSector, lastMinimum, lastMaximum}
 
--- "the last-writer half", of a run with this text, file and medium and this end; a store is what is lent and written, the medium
+-- "the last-writer half", of a run with this text, file and medium and this end; a store is what is lent and written, the medium and the stage
 pub record LastWriterHalf (text file : List ℕ) (store : Store) (end : End) : Type 0 where
   -- "Where the opening accepts, the half holds for every sector of every disk and both programmed rates of every phy below the
   -- file's p"
@@ -31,7 +31,7 @@ pub record LastWriterHalf (text file : List ℕ) (store : Store) (end : End) : T
       → programmedMaximum (phyIn (end .point .state .adapter) n) ≡ lastMaximum file (exchanges (end .log)) n
   -- the disks are as many bytes as at the start, so that a sector is 512 of them
   pub size : length (end .point .store .medium) ≡ length (store .medium)
-  -- "After a refused opening there is no phy and no programmed rate, and the whole medium stays as it was"
+  -- "After a refused opening there is no phy and no programmed rate, and the whole medium stays as it was", and the stage
   pub refusedState : (openedOf text file (store .medium) .call ≡ 0 → ⊥) → end .point .state ≡ zeroState
   pub refusedStore : (openedOf text file (store .medium) .call ≡ 0 → ⊥) → end .point .store ≡ store
 
@@ -49,13 +49,14 @@ pub record OneRun (text file : List ℕ) (store : Store) (requests : List Reques
 
 -- the ends of the lower and the higher run, compared
 pub record Comparison (lower higher : End) : Type 0 where
-  -- "Tables, counters and disks are every field of the state but the level, and every byte of the medium"
+  -- "Tables, counters and disks are every field of the state but the level, and every byte of the medium"; and every byte of the stage. The running
+  -- revisions stand in the configuration, one of the tables
   pub tables : stateWith (higher .point .state .level) (lower .point .state .adapter) ≡ higher .point .state
-  pub disks : lower .point .store ≡ higher .point .store
+  pub store : lower .point .store ≡ higher .point .store
   -- the requests that both were given got the same replies
   pub replies : exchanges (notDenied (lower .log)) ≡ exchanges (higher .log)
 
--- "Both runs start with the same file and the same medium bytes"
+-- "Both runs start with the same file and the same medium bytes", and "the same [stage] at the start of both runs"
 module _ (low high file : List ℕ) (store : Store) (requests : List Request) where
   abbrev pub lowerRun : End
   lowerRun = wholeRun low file store requests
@@ -74,6 +75,6 @@ module _ (low high file : List ℕ) (store : Store) (requests : List Request) wh
     pub comparison : textLevel low .call ≡ 0 → textLevel high .call ≡ 0 → textLevel low .level .0 ≤ textLevel high .level .0
         → Comparison lowerRun higherRun
 
--- demand 3: for every file and medium, every list of requests, and two texts
+-- demand 3: for every file, medium and stage, every list of requests, and two texts
 abbrev pub Claim : Type 0
 Claim = (low high file : List ℕ) (store : Store) (requests : List Request) → TwoRuns low high file store requests

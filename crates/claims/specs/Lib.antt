@@ -6,6 +6,7 @@ pub mod RoundTrip
 pub mod Sameness
 pub mod ReadOnly
 pub mod Reporting
+pub mod Firmware
 pub mod SpinUp
 pub mod Starred
 pub mod ClosingTally

@@ -1,5 +1,5 @@
 -- The codes that report (W-204): "One statement over codes 1, 2, 3, 20, 22, 26, 27, 28 and 30: none alters the state or the medium, but for the
--- reset of W-202". It is said of the calls, of every state, medium and request, under either header and at every level, refusals included. Assumes
+-- reset of W-202", nor the stage of W-207. It is said of the calls, of every state, medium, stage and request, under either header and at every level, refusals included. Assumes
 -- nothing.
 use mathlib.Core.Path.{_≡_}
 use mathlib.Core.Bool.{Bool, true, cond, _&&_}
@@ -7,7 +7,7 @@ use mathlib.Core.List.{List, [], _∷_, _++_}
 use Prim.Native.Nat.{ℕ}
 use lib.Dec.{eqb}
 use lib.ListN.{getD}
-use Rattle.codes.specs.Codes.{getDriverInfo, getCntlrConfig, getCntlrStatus, getPhyInfo, setPhyInfo, getLinkErrors, stpPassthru, getSataSignature, getScsiAddress, getDeviceAddress, getConnectorInfo, resetPlace, linkErrorResetCounts}
+use Rattle.codes.specs.Codes.{getDriverInfo, getCntlrConfig, getCntlrStatus, firmwareDownload, getPhyInfo, setPhyInfo, getLinkErrors, stpPassthru, getSataSignature, getScsiAddress, getDeviceAddress, getConnectorInfo, resetPlace, linkErrorResetCounts}
 use Rattle.level.specs.Need.{among}
 use Rattle.phy.specs.Change.{cleared}
 use Rattle.adapter.specs.Adapter.{phyIn, withPhy}
@@ -34,18 +34,18 @@ reporting =
 
 -- those that are served and do more than report
 abbrev pub altering : List ℕ
-altering = setPhyInfo ∷ stpPassthru ∷ []
+altering = firmwareDownload ∷ setPhyInfo ∷ stpPassthru ∷ []
 
 -- "the reset of W-202": a granted 22 with reset byte 1
 unfoldable pub resets : Told → Bool
 resets t = t .granted && (eqb (t .control) getLinkErrors && eqb (getD (t .body) resetPlace 0) linkErrorResetCounts)
 
--- the same state and medium, with the counters of phy n at 0
+-- the same state, medium and stage, with the counters of phy n at 0
 abbrev pub countersCleared : Point → ℕ → Point
 countersCleared p n =
     point (stateWith (p .state .level) (withPhy (p .state .adapter) n (cleared (phyIn (p .state .adapter) n)))) (p .store)
 
--- state and medium as before, but for the counters of the phy that such a request names
+-- state, medium and stage as before, but for the counters of the phy that such a request names
 abbrev pub leftBy : Point → Told → Point
 leftBy p t = cond (resets t) (countersCleared p (getD (t .body) 0 0)) p
 

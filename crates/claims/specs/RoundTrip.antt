@@ -34,7 +34,7 @@ grants r o = granted (exchangeOf r o) ≡ true
 
 -- one request and then the other
 pub record RoundTrip (p : Point) : Type 0 where
-  -- the OS bytes that the reply to a 27 shows, sent as a 28 in the state and medium that the 27 left, give the SAS address and LUN back
+  -- the OS bytes that the reply to a 27 shows, sent as a 28 where the 27 left state, medium and stage, give the SAS address and LUN back
   pub sas : (q r : Request) → Sound p q getScsiAddress → Sound p r getDeviceAddress → grants q (handled p q)
       → part (bodyOf r) 0 4 ≡ part (bodyShown q (handled p q)) 16 4
       → grants r (handled (step p q) r) × (part (bodyShown r (handled (step p q) r)) 4 16 ≡ part (bodyOf q) 0 16)

@@ -1,4 +1,4 @@
--- Runs (document 01, "Two runs and the last writer"), by `ends` and `log` of any step (laws/specs/Runs.antt). The opening only reads the medium.
+-- Runs (document 01, "Two runs and the last writer"), by `ends` and `log` of any step (laws/specs/Runs.antt). The opening only reads the medium, and is not lent the stage.
 -- Assumes nothing.
 use mathlib.Core.Bool.{Bool, _&&_}
 use mathlib.Core.List.{List}
@@ -37,7 +37,8 @@ denied p r = eqb (callNumber p r) 0 && refusedByLevel (p .state .level) r
 
 -- ---- a run
 
--- "Each request gets the state that the call before it returned and the medium as that call left it"
+-- "Each request gets the state that the call before it returned and the medium as that call left it"; the stage is "handed on from call to call like
+-- the medium" (W-207)
 abbrev pub step : Point → Request → Point
 step p r = handled p r .point
 

@@ -30,7 +30,7 @@ pub record Twins (q r : Request) : Type 0 where
   pub control : controlOf q ≡ controlOf r
   pub body : bodyOf q ≡ bodyOf r
 
--- "gets the same return code, body, medium and state (but the level)": both are answered, each with its return code at its own place
+-- "gets the same return code, body, medium and state (but the level)", and the same stage: both are answered, each with its return code at its own place
 pub record SameAnswer (q r : Request) (o p : Outcome) : Type 0 where
   pub answered : (o .call ≡ 0) × (p .call ≡ 0)
   pub code : returnCode (formOf q) (o .buffer) ≡ returnCode (formOf r) (p .buffer)
@@ -38,11 +38,11 @@ pub record SameAnswer (q r : Request) (o p : Outcome) : Type 0 where
   pub store : o .point .store ≡ p .point .store
   pub adapter : o .point .state .adapter ≡ p .point .state .adapter
 
--- the same adapter and medium, at a level
+-- the same adapter, medium and stage, at a level
 abbrev pub atLevel : Level → Adapter → Store → Point
 atLevel level ad store = point (stateWith level ad) store
 
--- the Linux request in a state of any level that passes the checks of state and medium, and so of 0 to 3; the other at Full, which then passes
+-- the Linux request in a state of any level that passes the checks of state, medium and stage, and so of 0 to 3; the other at Full, which then passes
 -- them too
 abbrev pub Sameness : Type 0
 Sameness =

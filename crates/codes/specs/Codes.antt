@@ -14,6 +14,9 @@ getCntlrConfig = 2
 abbrev pub getCntlrStatus : ℕ
 getCntlrStatus = 3
 
+abbrev pub firmwareDownload : ℕ
+firmwareDownload = 4
+
 abbrev pub getPhyInfo : ℕ
 getPhyInfo = 20
 
@@ -130,6 +133,10 @@ conSff8484Lane4 = 0x80000
 abbrev pub success : ℕ
 success = 0
 
+-- image check wrong, or commit with nothing staged (W-207)
+abbrev pub failed : ℕ
+failed = 1
+
 -- unknown code or wrong signature
 abbrev pub badControlCode : ℕ
 badControlCode = 2
@@ -216,7 +223,7 @@ badField = 104
 abbrev pub sharedRow : ℕ
 sharedRow = 105
 
--- medium length
+-- medium length; of a stage too (W-207)
 abbrev pub badMediumLength : ℕ
 badMediumLength = 106
 

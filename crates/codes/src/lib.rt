@@ -7,6 +7,8 @@ pub const GET_CNTLR_CONFIG: u32 = 2;
 
 pub const GET_CNTLR_STATUS: u32 = 3;
 
+pub const FIRMWARE_DOWNLOAD: u32 = 4;
+
 pub const GET_PHY_INFO: u32 = 20;
 
 pub const SET_PHY_INFO: u32 = 21;
@@ -59,6 +61,8 @@ pub const LINK_ERROR_RESET_COUNTS: u8 = 1;
 // Return codes.
 pub const SUCCESS: u32 = 0;
 
+pub const FAILED: u32 = 1;
+
 pub const BAD_CONTROL_CODE: u32 = 2;
 
 pub const INVALID_PARAMETER: u32 = 3;
@@ -102,6 +106,7 @@ pub const BAD_FIELD: u32 = 104;
 
 pub const SHARED_ROW: u32 = 105;
 
+// Of a medium, and of a stage.
 pub const BAD_MEDIUM_LENGTH: u32 = 106;
 
 pub const BAD_STATE: u32 = 107;

@@ -1,23 +1,25 @@
 -- What is proved of the definitions in specs/Parse.antt. Assumes nothing.
-use mathlib.Core.Path.{_≡_, sym, _∙_, ap}
+use mathlib.Core.Path.{_≡_, sym, _∙_, ap, ap₂}
 use mathlib.Core.List.{List, [], _∷_}
 use Prim.Native.Nat.{ℕ, _+_, _*_, _<_, _≤_}
 use native.Mathlib.Nat.{add-zero, zero-add}
 use native.Mathlib.Omega.{arith}
-use lib.ListN.{length, getD}
+use lib.ListN.{length, getD, length-replicate}
+use Rattle.laws.specs.Clear.{zeros}
 use Rattle.laws.specs.Fill.{listTo, padded, filled-as}
 use Rattle.laws.specs.Flat.{length-pieces, piece-at, piece-past}
-use Rattle.laws.specs.Splice.{part, splice, length-part, getD-part, part-part, length-splice, part-splice, part-in, part-below, get-in, get-below}
+use Rattle.laws.specs.Splice.{part, splice, length-part, getD-part, part-part, length-splice, part-splice, part-in, part-below, get-in, get-below, part-replicate}
 use Rattle.phy.specs.Block.{phySize, countersAt, phyOf, zeroPhy, noPhy}
 use Rattle.rows.specs.Row.{rowOf, rowsSize, rowStart, rowsOf, zeroRow, noRow}
 use Rattle.rows.proofs.ReadLaws.{row-part}
 use Rattle.block.specs.Check.{blockAt}
 use Rattle.connectors.specs.Connector.{connectorsSize, connectorOf, connectorsOf, zeroConnector}
 use Rattle.layout.specs.Layout.{phyPlace, rowPlace, controllerPlace, controllerStatusPlace, connectorPlace, fileLength}
-use Rattle.tables.specs.Tables.{tablesSize, physSize, phyStart, rowsStart, controllerStart, statusStart, connectorsStart, phyAt, tablesOf}
+use Rattle.adapter.specs.Staged.{staged, nothingStaged}
+use Rattle.tables.specs.Tables.{tablesSize, physSize, phyStart, rowsStart, controllerStart, statusStart, connectorsStart, stagedStart, stagedAt, phyAt, tablesOf}
 use Rattle.tables.proofs.ZeroLaws.{phy-zeros, row-zeros}
 use Rattle.contents.specs.Contents.{filePhy, fileRow, fileConnector, adapterOf}
-use Rattle.contents.specs.Parse.{headed, phyFrom, physFrom, rowFrom, rowsFrom, controlled, connectorsFrom}
+use Rattle.contents.specs.Parse.{headed, phyFrom, physFrom, rowFrom, rowsFrom, controlled, connectorsFrom, restFrom}
 
 -- ---- a phy and a row in a piece
 
@@ -99,15 +101,18 @@ module _ (t file : List ℕ) (p a : ℕ) (size : length t ≡ tablesSize) (k : p
       (piece-at (fileConnector file p a) 36 p 32 0 connector-long k)
       (piece-past (fileConnector file p a) 36 p 32 0 connector-long k)
 
-  -- the tables with the phys behind their head, with the rows behind these, with configuration and status, and with the connectors
+  -- the tables with the phys behind their head, with the rows behind these, with configuration and status, with the connectors, and with nothing staged
   abbrev manned : List ℕ
   manned = splice (headed t file p a) 176 (physFrom file p)
 
   abbrev withRows : List ℕ
   withRows = splice manned rowsStart (rowsFrom file p a)
 
+  abbrev connected : List ℕ
+  connected = splice (controlled withRows file p a) connectorsStart (connectorsFrom file p a)
+
   abbrev read : List ℕ
-  read = splice (controlled withRows file p a) connectorsStart (connectorsFrom file p a)
+  read = splice connected stagedStart (zeros 9)
 
   counted-long : length (splice t 0 (p ∷ a ∷ [])) ≡ tablesSize
   counted-long = length-splice t 0 (p ∷ a ∷ []) (omega arith) ∙ size
@@ -130,24 +135,34 @@ module _ (t file : List ℕ) (p a : ℕ) (size : length t ≡ tablesSize) (k : p
   controlled-long =
       length-splice withRows controllerStart (part file (controllerPlace p a) 212) (omega (arith, withRows-long, pair-long)) ∙ withRows-long
 
+  connected-long : length connected ≡ tablesSize
+  connected-long = length-splice (controlled withRows file p a) connectorsStart (connectorsFrom file p a) (omega (arith, controlled-long, connectors-long)) ∙ controlled-long
+
+  -- what stands below what is staged
+  under : (i n : ℕ) → i + n ≤ stagedStart → part read i n ≡ part connected i n
+  under i n h = part-below connected stagedStart (zeros 9) i n (omega (arith, connected-long)) h
+
   -- what stands below configuration and status
   low-byte : (i : ℕ) → i < controllerStart → getD read i 0 ≡ getD withRows i 0
   unfolding controlled
   low-byte i h =
-      get-below (controlled withRows file p a) connectorsStart (connectorsFrom file p a) i 0 (omega (arith, controlled-long)) (omega arith)
+      get-below connected stagedStart (zeros 9) i 0 (omega (arith, connected-long)) (omega arith)
+      ∙ get-below (controlled withRows file p a) connectorsStart (connectorsFrom file p a) i 0 (omega (arith, controlled-long)) (omega arith)
       ∙ get-below withRows controllerStart (part file (controllerPlace p a) 212) i 0 (omega (arith, withRows-long)) h
 
   low-part : (i n : ℕ) → i + n ≤ controllerStart → part read i n ≡ part withRows i n
   unfolding controlled
   low-part i n h =
-      part-below (controlled withRows file p a) connectorsStart (connectorsFrom file p a) i n (omega (arith, controlled-long)) (omega arith)
+      under i n (omega arith)
+      ∙ part-below (controlled withRows file p a) connectorsStart (connectorsFrom file p a) i n (omega (arith, controlled-long)) (omega arith)
       ∙ part-below withRows controllerStart (part file (controllerPlace p a) 212) i n (omega (arith, withRows-long)) h
 
   -- a part of the two
   pair-part : (i n : ℕ) → i + n ≤ 212 → part read (controllerStart + i) n ≡ part file (controllerPlace p a + i) n
   unfolding controlled
   pair-part i n h =
-      part-below (controlled withRows file p a) connectorsStart (connectorsFrom file p a) (controllerStart + i) n (omega (arith, controlled-long)) (omega arith)
+      under (controllerStart + i) n (omega arith)
+      ∙ part-below (controlled withRows file p a) connectorsStart (connectorsFrom file p a) (controllerStart + i) n (omega (arith, controlled-long)) (omega arith)
       ∙ part-in withRows controllerStart (part file (controllerPlace p a) 212) i n (omega (arith, withRows-long)) (omega (arith, pair-long))
       ∙ part-part file (controllerPlace p a) 212 i n h
 
@@ -159,8 +174,13 @@ module _ (t file : List ℕ) (p a : ℕ) (size : length t ≡ tablesSize) (k : p
 
   connectors-part : part read connectorsStart connectorsSize ≡ connectorsFrom file p a
   connectors-part =
-      ap (part read connectorsStart) (sym connectors-long)
+      under connectorsStart connectorsSize (omega arith)
+      ∙ ap (part connected connectorsStart) (sym connectors-long)
       ∙ part-splice (controlled withRows file p a) connectorsStart (connectorsFrom file p a) (omega (arith, controlled-long))
+
+  staged-read : stagedAt read ≡ nothingStaged
+  staged-read =
+      ap₂ staged (get-in connected stagedStart (zeros 9) 0 0 (omega (arith, connected-long)) (omega arith)) (part-in connected stagedStart (zeros 9) 1 8 (omega (arith, connected-long)) (omega (arith, length-replicate {A = ℕ} 9 0)) ∙ part-replicate {A = ℕ} 9 1 8 0 (omega arith))
 
   -- what stands in the head is the head's
   head-byte : (i : ℕ) → i < 176 → getD read i 0 ≡ getD (headed t file p a) i 0
@@ -216,14 +236,15 @@ module _ (t file : List ℕ) (p a : ℕ) (size : length t ≡ tablesSize) (k : p
       let f = head-byte 1 (omega arith) in
       let g = count-byte 0 (omega arith) in
       let h = count-byte 1 (omega arith) in
-      cc (info-part, phys-read, rows-part, rows-read, controller-part, status-part, connectors-part, connectors-read)
+      cc (info-part, phys-read, rows-part, rows-read, controller-part, status-part, connectors-part, connectors-read, staged-read)
 
 -- ---- what the code leaves
 
-pub parsed : (t file : List ℕ) (p a : ℕ) (b c d x y : List ℕ) → length t ≡ tablesSize → p ≤ 32 → a ≤ 64 → length file ≡ fileLength p a
+pub parsed : (t file : List ℕ) (p a : ℕ) (b c d x : List ℕ) → length t ≡ tablesSize → p ≤ 32 → a ≤ 64 → length file ≡ fileLength p a
     → b ≡ headed t file p a → c ≡ splice b 176 (physFrom file p) → d ≡ splice c rowsStart (rowsFrom file p a)
-    → x ≡ controlled d file p a → y ≡ splice x connectorsStart (connectorsFrom file p a) → tablesOf y ≡ adapterOf file p a
-parsed t file p a b c d x y size k l m e f g q r = rw (r, q, g, f, e) (tables-read t file p a size k l m)
+    → x ≡ restFrom d file p a → tablesOf x ≡ adapterOf file p a
+unfolding restFrom
+parsed t file p a b c d x size k l m e f g q = rw (q, g, f, e) (tables-read t file p a size k l m)
 
 -- a part of a file that was copied, by its place
 pub part-copied : (file d s : List ℕ) (at from place n : ℕ) → from ≡ place → s ≡ splice d at (part file from n) → s ≡ splice d at (part file place n)

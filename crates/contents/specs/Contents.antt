@@ -9,6 +9,7 @@ use Rattle.phy.specs.Block.{phyOf, zeroPhy}
 use Rattle.rows.specs.Row.{Row, rowOf, zeroRow}
 use Rattle.connectors.specs.Connector.{zeroConnector}
 use Rattle.layout.specs.Layout.{phyBlock, rowPlace, controllerPlace, controllerStatusPlace, connectorPlace}
+use Rattle.adapter.specs.Staged.{nothingStaged}
 use Rattle.adapter.specs.Adapter.{Adapter}
 
 -- "Block 1+n, phy n", and row i of a file with p phys
@@ -22,7 +23,7 @@ fileRow file p i = rowOf file (rowPlace p i)
 unfoldable pub fileConnector : List ℕ → ℕ → ℕ → ℕ → List ℕ
 fileConnector file p a n = part file (connectorPlace p a n) 36
 
--- "The state is the level and what the file holds, zero past p and a"
+-- "The state is the level and what the file holds, zero past p and a"; an opening leaves nothing staged (W-207)
 unfoldable pub adapterOf : List ℕ → ℕ → ℕ → Adapter
 adapterOf file p a =
     record {
@@ -34,4 +35,5 @@ adapterOf file p a =
       controller = part file (controllerPlace p a) 176;
       status = part file (controllerStatusPlace p a) 36;
       connectors = padded (fileConnector file p a) p 32 zeroConnector;
+      staged = nothingStaged;
     }

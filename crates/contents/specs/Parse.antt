@@ -1,11 +1,12 @@
 -- The bytes of the tables that a file gives (`ParseLaws.antt`: they stand for `adapterOf`). Assumes nothing.
 use mathlib.Core.List.{List, [], _∷_}
 use Prim.Native.Nat.{ℕ}
+use Rattle.laws.specs.Clear.{zeros}
 use Rattle.laws.specs.Flat.{pieces}
 use Rattle.laws.specs.Splice.{part, splice}
 use Rattle.layout.specs.Layout.{phyPlace, rowPlace, controllerPlace}
 use Rattle.phy.specs.Block.{phySize}
-use Rattle.tables.specs.Tables.{infoStart, controllerStart}
+use Rattle.tables.specs.Tables.{infoStart, controllerStart, connectorsStart, stagedStart}
 use Rattle.contents.specs.Contents.{fileConnector}
 
 -- phy n's bytes in a file, and those of row i in a file with p phys
@@ -30,3 +31,7 @@ controlled t file p a = splice t controllerStart (part file (controllerPlace p a
 
 unfoldable pub connectorsFrom : List ℕ → ℕ → ℕ → List ℕ
 connectorsFrom file p a = pieces (fileConnector file p a) p 36 32 0
+
+-- the tables with all that stands behind the rows: configuration and status, the connectors, and nothing staged
+unfoldable pub restFrom : List ℕ → List ℕ → ℕ → ℕ → List ℕ
+restFrom t file p a = splice (splice (controlled t file p a) connectorsStart (connectorsFrom file p a)) stagedStart (zeros 9)

@@ -1,4 +1,4 @@
-// The controller's configuration and status and the connectors of the tables, out of a file (W-204).
+// The controller's configuration and status and the connectors of the tables, out of a file (W-204), and that nothing is staged (W-207).
 ghost use mathlib.Core.Path.{_≡_};
 ghost use Prim.Native.Nat.{_+_, _<_, _≤_};
 ghost use lib.ListN.{length};
@@ -8,10 +8,10 @@ ghost use Rattle.connectors.specs.Connector.{connectorsSize};
 ghost use Rattle.layout.specs.Layout.{connectorPlace, fileLength};
 ghost use Rattle.tables.specs.Tables.{tablesSize, connectorsStart};
 ghost use Rattle.contents.specs.Contents.{fileConnector};
-ghost use Rattle.contents.specs.Parse.{controlled, connectorsFrom};
+ghost use Rattle.contents.specs.Parse.{controlled, connectorsFrom, restFrom};
 
 // Configuration and status, which stand one behind the other in the file and in the tables.
-pub fn fill_controller(tables: &mut [u8], file: &[u8], p: usize, a: usize)
+fn fill_controller(tables: &mut [u8], file: &[u8], p: usize, a: usize)
     requires { ⌜ (p ≤ 32) × (a ≤ 64) × (length (now file) ≡ fileLength p a) ⌝ }
     requires { ⌜ length (now tables) ≡ tablesSize ⌝ }
     ensures { λ _. ⌜ now (tables .exit) ≡ controlled (now (tables .entry)) (now (file .entry)) p a ⌝ }
@@ -60,10 +60,21 @@ fn put_connectors(all: &mut [u8], file: &[u8], p: usize, a: usize)
 }
 
 // All 32 connectors of the tables, zero from p on.
-pub fn fill_connectors(tables: &mut [u8], file: &[u8], p: usize, a: usize)
+fn fill_connectors(tables: &mut [u8], file: &[u8], p: usize, a: usize)
     requires { ⌜ (p ≤ 32) × (a ≤ 64) × (length (now file) ≡ fileLength p a) ⌝ }
     requires { ⌜ length (now tables) ≡ tablesSize ⌝ }
     ensures { λ _. ⌜ now (tables .exit) ≡ splice (now (tables .entry)) connectorsStart (connectorsFrom (now (file .entry)) p a) ⌝ }
 {
-    put_connectors(&mut tables[tables::CONNECTORS..tables::SIZE], file, p, a);
+    put_connectors(&mut tables[tables::CONNECTORS..tables::STAGED], file, p, a);
+}
+
+// What stands behind the rows; an opening leaves nothing staged.
+pub fn fill_rest(tables: &mut [u8], file: &[u8], p: usize, a: usize)
+    requires { ⌜ (p ≤ 32) × (a ≤ 64) × (length (now file) ≡ fileLength p a) ⌝ }
+    requires { ⌜ length (now tables) ≡ tablesSize ⌝ }
+    ensures { λ _. ⌜ now (tables .exit) ≡ restFrom (now (tables .entry)) (now (file .entry)) p a ⌝ }
+{
+    fill_controller(tables, file, p, a);
+    fill_connectors(tables, file, p, a);
+    wire::clear(tables, tables::STAGED, 9);
 }

@@ -3,8 +3,7 @@ mod connectors_of;
 mod phys;
 mod rows_of;
 
-use crate::connectors_of::fill_connectors;
-use crate::connectors_of::fill_controller;
+use crate::connectors_of::fill_rest;
 use crate::phys::fill_phys;
 use crate::rows_of::fill_rows;
 ghost use mathlib.Core.Path.{_≡_};
@@ -35,6 +34,5 @@ pub fn parse(tables: &mut [u8], file: &[u8], p: u8, a: u8)
     fill_head(tables, file, p, a);
     fill_phys(tables, file, p as usize);
     fill_rows(tables, file, p as usize, a as usize);
-    fill_controller(tables, file, p as usize, a as usize);
-    fill_connectors(tables, file, p as usize, a as usize);
+    fill_rest(tables, file, p as usize, a as usize);
 }

@@ -13,6 +13,7 @@ pub fn is_known(control: u32) -> bool
     (control == codes::GET_DRIVER_INFO)
         | (control == codes::GET_CNTLR_CONFIG)
         | (control == codes::GET_CNTLR_STATUS)
+        | (control == codes::FIRMWARE_DOWNLOAD)
         | (control == codes::GET_PHY_INFO)
         | (control == codes::SET_PHY_INFO)
         | (control == codes::GET_LINK_ERRORS)
@@ -35,6 +36,9 @@ pub fn structure_size(control: u32) -> u32
     }
     if control == codes::GET_CNTLR_STATUS {
         return 36;
+    }
+    if control == codes::FIRMWARE_DOWNLOAD {
+        return download::SIZE;
     }
     if control == codes::GET_PHY_INFO {
         return 2052;
@@ -71,6 +75,9 @@ pub fn data_size(control: u32, body: &[u8]) -> u32
     if control == codes::STP_PASSTHRU {
         return wire::read32(body, stp::DATA_LENGTH);
     }
+    if control == codes::FIRMWARE_DOWNLOAD {
+        return wire::read32(body, download::BUFFER_LENGTH);
+    }
     0
 }
 
@@ -81,6 +88,7 @@ pub fn signed_all(control: u32) -> bool
     (control == codes::GET_DRIVER_INFO)
         | (control == codes::GET_CNTLR_CONFIG)
         | (control == codes::GET_CNTLR_STATUS)
+        | (control == codes::FIRMWARE_DOWNLOAD)
 }
 
 // The lowest level that may send this. A code that no line names needs Full.
@@ -96,6 +104,9 @@ pub fn need(control: u32, body: &[u8]) -> Level
     }
     if control == codes::GET_CNTLR_STATUS {
         return Level::RESTRICTED;
+    }
+    if control == codes::FIRMWARE_DOWNLOAD {
+        return Level::LIMITED;
     }
     if control == codes::GET_PHY_INFO {
         return Level::RESTRICTED;

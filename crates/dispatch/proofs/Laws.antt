@@ -24,8 +24,9 @@ use Rattle.header.proofs.SentLaws.{form-room, checks-room}
 use Rattle.state.specs.State.{State, stateWith, stateSize, stateOf, stateHolds}
 use Rattle.state.proofs.Laws.{lent-tables, state-back, state-phys, state-rows}
 use Rattle.adapter.specs.Adapter.{Adapter, mediumSize}
+use Rattle.firmware.specs.Firmware.{stageSize}
 use Rattle.service.specs.Serve.{Store, serves, served}
-use Rattle.dispatch.specs.Request.{Point, point, outcome, stateNumber, bufferNumber, untouched, pending, inBuffer, servedRequest, refusedRequest, answered, replied, answeredAt, handled, RequestCall}
+use Rattle.dispatch.specs.Request.{Point, point, outcome, stageNumber, stateNumber, bufferNumber, untouched, pending, inBuffer, servedRequest, refusedRequest, answered, replied, answeredAt, handled, RequestCall}
 
 -- ---- the body, lent as the rest of the buffer
 
@@ -46,20 +47,24 @@ module _ (kind : Kind) (buffer : List ℕ) (code size : ℕ) (e : code ≡ contr
 Zero : ℕ → Type 0
 Zero n = n ≡ 0
 
--- what is known of the state and the medium then
-module _ (s : State) (medium : ℕ) (z : stateNumber s medium ≡ 0) where
-  number-known : (stateHolds s ≡ true) × (medium ≡ mediumSize (s .adapter))
-  unfolding stateNumber Zero
+-- what is known of the state, the medium and the stage then
+module _ (s : State) (medium stage : ℕ) (z : stateNumber s medium stage ≡ 0) where
+  number-known : (stateHolds s ≡ true) × (medium ≡ mediumSize (s .adapter)) × (stage ≡ stageSize)
+  unfolding stateNumber stageNumber Zero
   number-known =
       let b = came-then Zero (stateHolds s) (λ q. omega arith) z in
       let c = came-then Zero (eqb (mediumSize (s .adapter)) medium) (λ q. omega arith) (b .1) in
-      (b .0, sym (eqb-true (mediumSize (s .adapter)) medium (c .0)))
+      let d = came-then Zero (eqb stage stageSize) (λ q. omega arith) (c .1) in
+      (b .0, sym (eqb-true (mediumSize (s .adapter)) medium (c .0)), eqb-true stage stageSize (d .0))
 
   pub number-state : stateHolds s ≡ true
   number-state = number-known .0
 
   pub number-medium : medium ≡ mediumSize (s .adapter)
   number-medium = number-known .1
+
+  pub number-stage : stage ≡ stageSize
+  number-stage = number-known .2
 
 -- and of the buffer
 module _ (f : Form) (number buffer call : ℕ) (e : call ≡ bufferNumber f number buffer) (z : call ≡ 0) where
@@ -75,15 +80,18 @@ module _ (f : Form) (number buffer call : ℕ) (e : call ≡ bufferNumber f numb
   pub heard-buffer : f .size ≤ buffer
   heard-buffer = buffer-known .1
 
-module _ (kind : Kind) (s : State) (medium buffer call : ℕ) (e : call ≡ bufferNumber (formBy kind) (stateNumber s medium) buffer) (z : call ≡ 0) where
+module _ (kind : Kind) (s : State) (medium stage buffer call : ℕ) (e : call ≡ bufferNumber (formBy kind) (stateNumber s medium stage) buffer) (z : call ≡ 0) where
   pub heard-state : stateHolds s ≡ true
-  heard-state = number-state s medium (heard-number (formBy kind) (stateNumber s medium) buffer call e z)
+  heard-state = number-state s medium stage (heard-number (formBy kind) (stateNumber s medium stage) buffer call e z)
 
   pub heard-medium : medium ≡ mediumSize (s .adapter)
-  heard-medium = number-medium s medium (heard-number (formBy kind) (stateNumber s medium) buffer call e z)
+  heard-medium = number-medium s medium stage (heard-number (formBy kind) (stateNumber s medium stage) buffer call e z)
+
+  pub heard-stage : stage ≡ stageSize
+  heard-stage = number-stage s medium stage (heard-number (formBy kind) (stateNumber s medium stage) buffer call e z)
 
   pub heard-room : formBy kind .size ≤ buffer
-  heard-room = heard-buffer (formBy kind) (stateNumber s medium) buffer call e z
+  heard-room = heard-buffer (formBy kind) (stateNumber s medium stage) buffer call e z
 
 -- ---- what a callee gave
 

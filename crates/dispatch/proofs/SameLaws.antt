@@ -1,4 +1,4 @@
--- What a request leaves is fixed to the byte: two callers with the same state, medium and buffer are left the same. Assumes nothing.
+-- What a request leaves is fixed to the byte: two callers with the same state, medium, stage and buffer are left the same. Assumes nothing.
 use mathlib.Core.Path.{_≡_, sym, _∙_, ap}
 use mathlib.Core.List.{List}
 use Prim.Native.Nat.{ℕ}

@@ -1,4 +1,4 @@
--- One request, under either header (document 01, "Request", "From the input", "From the state"; W-201): the call's number, the state, what is lent
+-- One request, under either header (document 01, "Request", "From the input", "From the state"; W-201, W-207): the call's number, the state, what is lent
 -- beside it and the buffer that it leaves, after refusals as after success. Assumes nothing.
 use mathlib.Core.Path.{_≡_}
 use mathlib.Core.Bool.{cond}
@@ -13,6 +13,7 @@ use Rattle.adapter.specs.Adapter.{Adapter, mediumSize}
 use Rattle.header.specs.declared.Kind.{Kind}
 use Rattle.header.specs.Form.{Form, withCode}
 use Rattle.header.specs.Sent.{Request, sent, formOf, controlOf, bodyOf, checksCode}
+use Rattle.firmware.specs.Firmware.{stageSize}
 use Rattle.service.specs.Serve.{Store, Served, served}
 
 -- ---- where it is sent to, and what it leaves
@@ -36,22 +37,26 @@ outcome call p buffer = record { call = call; point = p; buffer = buffer }
 
 -- ---- the call's number
 
--- "state; medium length": the call's number of the first that fails, or 0. Nothing of the request is looked at
-unfoldable pub stateNumber : State → ℕ → ℕ
-stateNumber s medium = cond (stateHolds s) (cond (eqb (mediumSize (s .adapter)) medium) 0 badMediumLength) badState
+-- of a stage: "106 if the stage has another length; this comes straight after the medium length" (W-207)
+unfoldable pub stageNumber : ℕ → ℕ
+stageNumber stage = cond (eqb stage stageSize) 0 badMediumLength
+
+-- "state; medium length", and the stage's: the call's number of the first that fails, or 0. Nothing of the request is looked at
+unfoldable pub stateNumber : State → ℕ → ℕ → ℕ
+stateNumber s medium stage = cond (stateHolds s) (cond (eqb (mediumSize (s .adapter)) medium) (stageNumber stage) badMediumLength) badState
 
 abbrev pub pointNumber : Point → ℕ
-pointNumber p = stateNumber (p .state) (length (p .store .medium))
+pointNumber p = stateNumber (p .state) (length (p .store .medium)) (length (p .store .stage))
 
 -- "buffer of 28 bytes", or of the 20 of the Linux header, where the number of the checks before it is 0
 unfoldable pub bufferNumber : Form → ℕ → ℕ → ℕ
 bufferNumber f number buffer = cond (eqb number 0) (cond (ltb buffer (f .size)) shortBuffer 0) number
 
--- "state; medium length; buffer" under the size of its header
+-- "state; medium length", the stage's; "buffer" under the size of its header
 abbrev pub callNumber : Point → Request → ℕ
 callNumber p r = bufferNumber (formOf r) (pointNumber p) (length (r .buffer))
 
--- "with any other [number], buffer, state and medium are untouched"
+-- "with any other [number], buffer, state and medium are untouched", and the stage
 abbrev pub untouched : ℕ → Point → Request → Outcome
 untouched call p r = outcome call p (r .buffer)
 

@@ -1,6 +1,7 @@
 // The simulator for programs in other languages: its two calls, the second under either header, a whole run and the tally of its record, over bytes
 // that the caller lends. `ascheknopf.h` declares them for C.
 use frames::Framing;
+use session::open_and_run;
 ghost use mathlib.Core.Path.{_≡_};
 ghost use Rattle.header.specs.declared.Kind.the-variants.{Srb, Linux};
 ghost use Rattle.state.specs.Open.{OpenCall};
@@ -20,11 +21,16 @@ pub extern "C" fn ascheknopf_open(text: &[u8], file: &[u8], medium: &[u8], state
 
 // Handles one request under the first header, in place.
 #[no_mangle]
-pub extern "C" fn ascheknopf_request(state: &mut [u8], medium: &mut [u8], buffer: &mut [u8]) -> u32
-    ensures { λ call. ⌜ RequestCall Srb (now (state .entry)) (storeOf (now (medium .entry))) (now (buffer .entry)) call
-        (now (state .exit)) (storeOf (now (medium .exit))) (now (buffer .exit)) ⌝ }
+pub extern "C" fn ascheknopf_request(
+    state: &mut [u8],
+    medium: &mut [u8],
+    stage: &mut [u8],
+    buffer: &mut [u8],
+) -> u32
+    ensures { λ call. ⌜ RequestCall Srb (now (state .entry)) (storeOf (now (medium .entry)) (now (stage .entry))) (now (buffer .entry)) call
+        (now (state .exit)) (storeOf (now (medium .exit)) (now (stage .exit))) (now (buffer .exit)) ⌝ }
 {
-    dispatch::request(state, medium, buffer)
+    dispatch::request(state, medium, stage, buffer)
 }
 
 // Handles one request under the Linux header, in place. Its control code is handed in beside the buffer.
@@ -32,13 +38,14 @@ pub extern "C" fn ascheknopf_request(state: &mut [u8], medium: &mut [u8], buffer
 pub extern "C" fn ascheknopf_request_linux(
     state: &mut [u8],
     medium: &mut [u8],
+    stage: &mut [u8],
     control: u32,
     buffer: &mut [u8],
 ) -> u32
-    ensures { λ call. ⌜ RequestCall (Linux control) (now (state .entry)) (storeOf (now (medium .entry))) (now (buffer .entry)) call
-        (now (state .exit)) (storeOf (now (medium .exit))) (now (buffer .exit)) ⌝ }
+    ensures { λ call. ⌜ RequestCall (Linux control) (now (state .entry)) (storeOf (now (medium .entry)) (now (stage .entry))) (now (buffer .entry)) call
+        (now (state .exit)) (storeOf (now (medium .exit)) (now (stage .exit))) (now (buffer .exit)) ⌝ }
 {
-    dispatch::request_linux(state, medium, control, buffer)
+    dispatch::request_linux(state, medium, stage, control, buffer)
 }
 
 // Opens the adapter and handles the requests of a session in order, until one is cut short or the record is full: the replies stand in the
@@ -49,13 +56,15 @@ pub extern "C" fn ascheknopf_run(
     text: &[u8],
     file: &[u8],
     medium: &mut [u8],
+    stage: &mut [u8],
     session: &mut [u8],
     lines: &mut [u8],
 ) -> usize
-    ensures { λ r. ⌜ ran r (storeOf (now (medium .exit))) (now (session .exit)) (now (lines .exit))
-        ≡ sessionRun FirstHeader (now (text .entry)) (now (file .entry)) (storeOf (now (medium .entry))) (now (session .entry)) (now (lines .entry)) ⌝ }
+    ensures { λ r. ⌜ ran r (storeOf (now (medium .exit)) (now (stage .exit))) (now (session .exit)) (now (lines .exit))
+        ≡ sessionRun FirstHeader (now (text .entry)) (now (file .entry)) (storeOf (now (medium .entry)) (now (stage .entry))) (now (session .entry)) (now (lines .entry)) ⌝ }
 {
-    session::open_and_run(Framing::FirstHeader, text, file, medium, session, lines)
+    let first = Framing::FirstHeader;
+    open_and_run(first, text, file, medium, stage, session, lines)
 }
 
 // The same of a session whose requests may have either header: before each stand its header (0 the first, 1 the Linux one), its control code (0
@@ -65,13 +74,15 @@ pub extern "C" fn ascheknopf_run_both(
     text: &[u8],
     file: &[u8],
     medium: &mut [u8],
+    stage: &mut [u8],
     session: &mut [u8],
     lines: &mut [u8],
 ) -> usize
-    ensures { λ r. ⌜ ran r (storeOf (now (medium .exit))) (now (session .exit)) (now (lines .exit))
-        ≡ sessionRun BothHeaders (now (text .entry)) (now (file .entry)) (storeOf (now (medium .entry))) (now (session .entry)) (now (lines .entry)) ⌝ }
+    ensures { λ r. ⌜ ran r (storeOf (now (medium .exit)) (now (stage .exit))) (now (session .exit)) (now (lines .exit))
+        ≡ sessionRun BothHeaders (now (text .entry)) (now (file .entry)) (storeOf (now (medium .entry)) (now (stage .entry))) (now (session .entry)) (now (lines .entry)) ⌝ }
 {
-    session::open_and_run(Framing::BothHeaders, text, file, medium, session, lines)
+    let both = Framing::BothHeaders;
+    open_and_run(both, text, file, medium, stage, session, lines)
 }
 
 // Counts the lines of a record by their kind, and writes the totals at the start of the bytes lent for them, 64 bits each: requests, granted, denied,

@@ -36,12 +36,12 @@ srbBody buffer = behindHeader srb buffer
 
 -- ---- its checks
 
--- "signature (CSMIALL for code 1, CSMISAS for the rest, then a zero byte)"; CSMIALL for 2 and 3 too (`signedAll`)
+-- "signature (CSMIALL for code 1, CSMISAS for the rest, then a zero byte)"; CSMIALL for 2, 3 and 4 too (`signedAll`)
 unfoldable pub signatureHolds : ℕ → List ℕ → Bool
 signatureHolds code buffer = cond (signedAll code) (sameBytes (signature buffer) csmiAll) (sameBytes (signature buffer) csmiSas)
 
 -- "Length at least the structure's size without header (for 25: without bDataBuffer, plus uDataLength) and 28 + Length inside the
--- buffer", which is Length inside the body
+-- buffer", which is Length inside the body; for 4 "Length counts" its bytes too (`dataSize`)
 unfoldable pub lengthHolds : ℕ → ℕ → List ℕ → Bool
 lengthHolds code n body = leb (structureSize code + dataSize code body) n && leb n (length body)
 

@@ -4,7 +4,7 @@ use Prim.Native.Nat.{ℕ}
 use Rattle.laws.specs.Splice.{splice}
 use Rattle.reports.specs.Report.{Report, filled}
 
--- the whole structure as the file gives it, 176 bytes
+-- the whole structure as the state has it, 176 bytes
 unfoldable pub controllerConfig : List ℕ → List ℕ → Report
 controllerConfig controller body = filled (splice body 0 controller)
 

@@ -41,7 +41,7 @@ fn connectors_hold(tables: &[u8], p: usize) -> bool
     requires { ⌜ (p ≤ 32) × (length (now tables) ≡ tablesSize) ⌝ }
     ensures { λ r. ⌜ r ≡ pinoutsHold (tablesOf (now (tables .entry)) .connectors) p ⌝ }
 {
-    connectors::pinouts_hold(&tables[tables::CONNECTORS..tables::SIZE], p)
+    connectors::pinouts_hold(&tables[tables::CONNECTORS..tables::STAGED], p)
 }
 
 // Each phy below p passes the field rules, and its connector.
@@ -73,7 +73,7 @@ fn connectors_zero_from(tables: &[u8], p: usize) -> bool
     requires { ⌜ (p ≤ 32) × (length (now tables) ≡ tablesSize) ⌝ }
     ensures { λ r. ⌜ r ≡ connectorsPast (tablesOf (now (tables .entry)) .connectors) p ⌝ }
 {
-    connectors::zero_from(&tables[tables::CONNECTORS..tables::SIZE], p)
+    connectors::zero_from(&tables[tables::CONNECTORS..tables::STAGED], p)
 }
 
 // Every phy and connector from p on and every row from a on is zero.

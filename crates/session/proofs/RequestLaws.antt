@@ -16,9 +16,10 @@ use Rattle.adapter.specs.Adapter.{mediumSize}
 use Rattle.header.specs.declared.Kind.{Kind}
 use Rattle.header.specs.Form.{returnCode}
 use Rattle.header.specs.Sent.{Request, sent, formBy, formOf}
+use Rattle.firmware.specs.Firmware.{stageSize}
 use Rattle.service.specs.Serve.{storeOf}
 use Rattle.dispatch.specs.Request.{Point, point, Outcome, outcome, stateNumber, bufferNumber, callNumber, untouched, answeredAt, handled}
-use Rattle.dispatch.proofs.Laws.{heard-state, heard-medium, heard-room}
+use Rattle.dispatch.proofs.Laws.{heard-state, heard-medium, heard-stage, heard-room}
 use Rattle.frames.specs.declared.Framing.{Framing}
 use Rattle.frames.specs.declared.Prefix.{Prefix}
 use Rattle.frames.specs.Frames.{prefixSize, prefixOf, kindOf}
@@ -49,24 +50,27 @@ prefix-lent k n l h b = rw (length-take-le n l b) h
 -- ---- a request
 
 -- what is known where the call's number is 0
-module _ (kind : Kind) (s : State) (medium buffer number call : ℕ) (n : number ≡ stateNumber s medium) (e : call ≡ bufferNumber (formBy kind) number buffer) (z : call ≡ 0) where
-  called : call ≡ bufferNumber (formBy kind) (stateNumber s medium) buffer
+module _ (kind : Kind) (s : State) (medium stage buffer number call : ℕ) (n : number ≡ stateNumber s medium stage) (e : call ≡ bufferNumber (formBy kind) number buffer) (z : call ≡ 0) where
+  called : call ≡ bufferNumber (formBy kind) (stateNumber s medium stage) buffer
   called = rw (← n) e
 
   pub reply-state : stateHolds s ≡ true
-  reply-state = heard-state kind s medium buffer call called z
+  reply-state = heard-state kind s medium stage buffer call called z
 
   pub reply-medium : medium ≡ mediumSize (s .adapter)
-  reply-medium = heard-medium kind s medium buffer call called z
+  reply-medium = heard-medium kind s medium stage buffer call called z
+
+  pub reply-stage : stage ≡ stageSize
+  reply-stage = heard-stage kind s medium stage buffer call called z
 
   pub reply-buffer : formBy kind .size ≤ buffer
-  reply-buffer = heard-room kind s medium buffer call called z
+  reply-buffer = heard-room kind s medium stage buffer call called z
 
-module _ (kind : Kind) (s : State) (medium buffer : List ℕ) (number call : ℕ) (n : number ≡ stateNumber s (length medium))
+module _ (kind : Kind) (s : State) (medium stage buffer : List ℕ) (number call : ℕ) (n : number ≡ stateNumber s (length medium) (length stage))
     (e : call ≡ bufferNumber (formBy kind) number (length buffer))
   where
     abbrev p : Point
-    p = point s (storeOf medium)
+    p = point s (storeOf medium stage)
 
     abbrev r : Request
     r = sent kind buffer

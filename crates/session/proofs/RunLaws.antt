@@ -20,7 +20,7 @@ use Rattle.frames.specs.Frames.{prefixSize, firstSize, firstOf, behindFirst, re
 use Rattle.tally.specs.Record.{lineBytes}
 use Rattle.tally.proofs.RecordLaws.{length-line}
 use Rattle.claims.specs.Lines.{lineOf}
-use Rattle.session.specs.Session.{withReplies, recordOf, Ran, ran, shown, ranFrom, Recorded, records, afterFramed, beforeRests, afterFirst}
+use Rattle.session.specs.Session.{withReplies, recordOf, Ran, ran, shown, ranFrom, Recorded, records, afterFramed, beforeRests, afterFirst, behindBoth, afterAt}
 use Rattle.frames.proofs.FramesLaws.{first-prefix}
 
 -- a run's bytes behind those of the requests before it
@@ -108,15 +108,23 @@ lent l at = take (length l - at) (drop at l)
 abbrev back : List ℕ → ℕ → List ℕ → List ℕ
 back l at s = take at l ++ (s ++ drop (length l - at) (drop at l))
 
+-- what the first request of two rests that were lent leaves in the wholes
+pub at-left : (f : Framing) (size at line : ℕ) (p q : Point) (session lines bytes own : List ℕ) → records q bytes own ≡ afterFirst f size p (lent session at) (lent lines line)
+    → records q (back session at bytes) (back lines line own) ≡ afterAt f size at line p session lines
+unfolding afterAt
+at-left f size at line p q session lines bytes own e =
+    rw (rest-end session at, rest-end lines line, append-nil, append-nil) (ap (behindBoth (take at session) (take line lines)) (rw (rest, rest) at e))
+
+-- so many bytes of a rest that was lent are there
+pub rest-up : (l : List ℕ) (at n : ℕ) → n ≤ length (lent l at) → at ≤ length l → at + n ≤ length l
+rest-up l at n h k = let e : n ≤ length l - at = rw (rest, length-drop) at h in omega arith
+
 module _ (l s : List ℕ) (at n : ℕ) (h : at ≤ length l) where
-  back-whole : back l at s ≡ take at l ++ s
-  back-whole = rw (rest-end l at, append-nil) refl
+  take-back : take (at + n) (take at l ++ s) ≡ take at l ++ take n s
+  take-back = rw (length-take-le at l h) at (take-append-add (take at l) s n)
 
-  take-back : take (at + n) (back l at s) ≡ take at l ++ take n s
-  take-back = rw back-whole (rw (length-take-le at l h) at (take-append-add (take at l) s n))
-
-  drop-back : drop (at + n) (back l at s) ≡ drop n s
-  drop-back = rw back-whole (rw (length-take-le at l h) at (drop-append-add (take at l) s n))
+  drop-back : drop (at + n) (take at l ++ s) ≡ drop n s
+  drop-back = rw (length-take-le at l h) at (drop-append-add (take at l) s n)
 
 -- one request more before a run
 behind-behind : (n : ℕ) (session session′ lines lines′ : List ℕ) (r : Ran)
@@ -148,22 +156,30 @@ module _ (f : Framing) (r : Ran) (s : State) (store : Store) (session lines : Li
           ended (ran-none f here (drop at session) (drop (8 * count) lines) (room - count) (rw (rest session at) at (sym n ∙ z)))
 
       -- a request is handled
-      pub run-goes-on : (size ≡ 0 → ⊥) → size ≤ length (lent session at) → at ≤ length session → count < room → 8 * room ≤ length lines
-          → (q : Point) (session′ lines′ : List ℕ) → records q session′ lines′ ≡ afterFirst f size here (lent session at) (lent lines (8 * count))
-          → length session′ ≡ length (lent session at)
-          → r ≡ ranAfter f room q (back session at session′) (back lines (8 * count) lines′) (at + size) (count + 1)
-      run-goes-on h b k c w q session′ lines′ e l =
+      pub run-goes-on : (size ≡ 0 → ⊥) → at + size ≤ length session → count < room → 8 * room ≤ length lines → (q : Point) (session′ lines′ : List ℕ)
+          → records q session′ lines′ ≡ afterAt f size at (8 * count) here session lines → length session′ ≡ length session
+          → r ≡ ranAfter f room q session′ lines′ (at + size) (count + 1)
+      unfolding afterAt
+      run-goes-on h b c w q session′ lines′ e l =
+          let x : Recorded = afterFirst f size here (drop at session) (drop (8 * count) lines) in
+          let a : session′ ≡ take at session ++ x .bytes = ap (λ (y : Recorded). y .bytes) e in
+          let d : lines′ ≡ take (8 * count) lines ++ x .line = ap (λ (y : Recorded). y .line) e in
+          let t : length (take at session) ≡ at = length-take-le at session (omega arith) in
+          let k : length (x .bytes) ≡ length (drop at session) = rw length-drop (omega (arith, l, t, ap length a ∙ length-append (take at session) (x .bytes))) in
           let m : room - count ≡ suc (room - (count + 1)) = omega arith in
           let v : 8 * (count + 1) ≡ 8 * count + 8 = omega arith in
           rw (
             v,
-            take-back session session′ at size k,
-            drop-back session session′ at size k,
-            take-back lines lines′ (8 * count) 8 (omega arith),
-            drop-back lines lines′ (8 * count) 8 (omega arith),
+            a,
+            d,
+            ap (λ (y : Recorded). y .point) e,
+            take-back session (x .bytes) at size (omega arith),
+            drop-back session (x .bytes) at size (omega arith),
+            take-back lines (x .line) (8 * count) 8 (omega arith),
+            drop-back lines (x .line) (8 * count) 8 (omega arith),
           )
           (g
           ∙ ap (behindDone count (take at session) (take (8 * count) lines))
-          (rw (m, ← rest session at, ← rest lines (8 * count)) (ran-first f here (lent session at) (lent lines (8 * count)) size n b h q session′ lines′ e l (room - (count + 1))))
-          ∙ behind-behind count (take at session) (take size session′) (take (8 * count) lines) (take 8 lines′)
-          (ranFrom f (room - (count + 1)) q (drop size session′) (drop 8 lines′)))
+          (rw m (ran-first f here (drop at session) (drop (8 * count) lines) size (rw (rest session at) at n) (rw length-drop (omega arith)) h (x .point) (x .bytes) (x .line) refl k (room - (count + 1))))
+          ∙ behind-behind count (take at session) (take size (x .bytes)) (take (8 * count) lines) (take 8 (x .line))
+          (ranFrom f (room - (count + 1)) (x .point) (drop size (x .bytes)) (drop 8 (x .line))))

@@ -49,7 +49,7 @@ ranFrom f room p session lines = shown f (run p (requestsOf f room session)) ses
 
 -- ---- one request of a session, for the contracts below the whole run
 
--- what one request leaves: the state and the medium, the bytes that it stands in, and its line of the record
+-- what one request leaves: the state and what is lent beside it, the bytes that it stands in, and its line of the record
 pub record Recorded : Type 0 where
   pub point : Point
   pub bytes : List ℕ
@@ -77,3 +77,10 @@ beforeRests session lines x = records (x .point) (x .bytes ++ session) (x .line 
 -- what the first so many bytes of a session leave, in the whole of it and of a record
 unfoldable pub afterFirst : Framing → ℕ → Point → List ℕ → List ℕ → Recorded
 afterFirst f size p session lines = beforeRests (drop size session) (drop 8 lines) (afterFramed f p (take size session))
+
+-- the same where they start at an index of the session, and the request's line at one of the record
+abbrev pub behindBoth : List ℕ → List ℕ → Recorded → Recorded
+behindBoth session lines x = records (x .point) (session ++ x .bytes) (lines ++ x .line)
+
+unfoldable pub afterAt : Framing → ℕ → ℕ → ℕ → Point → List ℕ → List ℕ → Recorded
+afterAt f size at line p session lines = behindBoth (take at session) (take line lines) (afterFirst f size p (drop at session) (drop line lines))

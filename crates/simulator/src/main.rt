@@ -1,6 +1,6 @@
 // The program (document 01, "Starred cases", its last paragraphs): opens the adapter of adapter.bin at the level of level.txt, handles the
 // requests of a session on standard input, prints a line for each, and at last the totals (W-206). Every rule is in the library; here is reading and printing.
-// The medium starts at zero.
+// The medium starts at zero, and so does the stage for firmware, which no line shows.
 mod print;
 mod session;
 
@@ -42,10 +42,11 @@ fn read_file(path: &[u8], buf: &mut [u8]) -> usize
 // Opens the adapter, and handles the session where that is accepted.
 fn simulate(text: &[u8], file: &[u8], medium: &mut [u8]) {
     let mut state = [0u8; dispatch::SIZE];
+    let mut stage = [0u8; dispatch::STAGE_SIZE];
     let call = dispatch::open(text, file, medium, &mut state);
     if call == 0 {
         say_title();
-        say_totals(run(&mut state, medium));
+        say_totals(run(&mut state, medium, &mut stage));
         return;
     }
     say_open(call);

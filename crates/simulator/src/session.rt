@@ -41,12 +41,12 @@ fn code_of(call: u32, buffer: &[u8]) -> u32
 }
 
 // Handles the request whose bytes are in buffer, and gives its line.
-fn handle(state: &mut [u8], medium: &mut [u8], buffer: &mut [u8]) -> Line
-    ensures { λ line. ⌜ RequestCall Srb (now (state .entry)) (storeOf (now (medium .entry))) (now (buffer .entry)) (line .call)
-        (now (state .exit)) (storeOf (now (medium .exit))) (now (buffer .exit)) ⌝ }
+fn handle(state: &mut [u8], medium: &mut [u8], stage: &mut [u8], buffer: &mut [u8]) -> Line
+    ensures { λ line. ⌜ RequestCall Srb (now (state .entry)) (storeOf (now (medium .entry)) (now (stage .entry))) (now (buffer .entry)) (line .call)
+        (now (state .exit)) (storeOf (now (medium .exit)) (now (stage .exit))) (now (buffer .exit)) ⌝ }
     ensures { λ line. ⌜ line .code ≡ codeIn (line .call) (now (buffer .exit)) ⌝ }
 {
-    let call = dispatch::request(state, medium, buffer);
+    let call = dispatch::request(state, medium, stage, buffer);
     let code = code_of(call, buffer);
     Line {
         call: call,
@@ -55,41 +55,47 @@ fn handle(state: &mut [u8], medium: &mut [u8], buffer: &mut [u8]) -> Line
 }
 
 // A request of which n bytes were read into buffer. Input that ends within it cuts the session.
-fn filled(state: &mut [u8], medium: &mut [u8], buffer: &mut [u8], n: usize) -> Taken
+fn filled(
+    state: &mut [u8],
+    medium: &mut [u8],
+    stage: &mut [u8],
+    buffer: &mut [u8],
+    n: usize,
+) -> Taken
     ensures { λ r. ⌜ (n < length (now (buffer .entry)) → r ≡ Cut) ⌝ }
-    ensures { λ r. ⌜ (length (now (buffer .entry)) ≤ n → HandledBy r (now (state .entry)) (storeOf (now (medium .entry))) (now (buffer .entry))
-        (now (state .exit)) (storeOf (now (medium .exit))) (now (buffer .exit))) ⌝ }
+    ensures { λ r. ⌜ (length (now (buffer .entry)) ≤ n → HandledBy r (now (state .entry)) (storeOf (now (medium .entry)) (now (stage .entry))) (now (buffer .entry))
+        (now (state .exit)) (storeOf (now (medium .exit)) (now (stage .exit))) (now (buffer .exit))) ⌝ }
 {
     if n < buffer.len() {
         return Taken::Cut;
     }
-    Taken::Handled(handle(state, medium, buffer))
+    Taken::Handled(handle(state, medium, stage, buffer))
 }
 
-fn read_request(state: &mut [u8], medium: &mut [u8], buffer: &mut [u8]) -> Taken {
+fn read_request(state: &mut [u8], medium: &mut [u8], stage: &mut [u8], buffer: &mut [u8]) -> Taken {
     let n = io::read_full(STDIN_FILENO, buffer);
-    filled(state, medium, buffer, n)
+    filled(state, medium, stage, buffer, n)
 }
 
-fn take_request(state: &mut [u8], medium: &mut [u8], size: usize) -> Taken
+fn take_request(state: &mut [u8], medium: &mut [u8], stage: &mut [u8], size: usize) -> Taken
     requires { ⌜ size ≤ 32768 ⌝ }
 {
     let mut buffer = [0u8; 32768];
-    read_request(state, medium, &mut buffer[0..size])
+    read_request(state, medium, stage, &mut buffer[0..size])
 }
 
 // A length that was read whole. A request that is too long cuts the session.
-fn sized(state: &mut [u8], medium: &mut [u8], size: u32) -> Taken
+fn sized(state: &mut [u8], medium: &mut [u8], stage: &mut [u8], size: u32) -> Taken
     ensures { λ r. ⌜ (32768 < size → r ≡ Cut) ⌝ }
 {
     if REQUEST_LIMIT < size {
         return Taken::Cut;
     }
-    take_request(state, medium, size as usize)
+    take_request(state, medium, stage, size as usize)
 }
 
 // A length of which n bytes were read.
-fn measured(state: &mut [u8], medium: &mut [u8], n: usize, size: u32) -> Taken
+fn measured(state: &mut [u8], medium: &mut [u8], stage: &mut [u8], n: usize, size: u32) -> Taken
     ensures { λ r. ⌜ (n ≡ 0 → r ≡ End) ⌝ }
     ensures { λ r. ⌜ (0 < n → n < 4 → r ≡ Cut) ⌝ }
 {
@@ -99,22 +105,22 @@ fn measured(state: &mut [u8], medium: &mut [u8], n: usize, size: u32) -> Taken
     if n < 4 {
         return Taken::Cut;
     }
-    sized(state, medium, size)
+    sized(state, medium, stage, size)
 }
 
-fn next_request(state: &mut [u8], medium: &mut [u8]) -> Taken {
+fn next_request(state: &mut [u8], medium: &mut [u8], stage: &mut [u8]) -> Taken {
     let mut length = [0u8; 4];
     let n = io::read_full(STDIN_FILENO, &mut length);
-    measured(state, medium, n, wire::read32(&length, 0))
+    measured(state, medium, stage, n, wire::read32(&length, 0))
 }
 
 // Reads on, prints what was taken, and counts it. Requests are numbered from 1, as they are counted.
-fn take_next(totals: Totals, state: &mut [u8], medium: &mut [u8]) -> Step
+fn take_next(totals: Totals, state: &mut [u8], medium: &mut [u8], stage: &mut [u8]) -> Step
     requires { ⌜ Sums totals ⌝ }
     requires { ⌜ totals .requests < 18446744073709551615 ⌝ }
     ensures { λ r. ⌜ r .totals ≡ after totals (r .taken) ⌝ }
 {
-    let taken = next_request(state, medium);
+    let taken = next_request(state, medium, stage);
     say_taken(totals.requests + 1, taken);
     let counted = tally::after(totals, taken);
     Step {
@@ -125,12 +131,12 @@ fn take_next(totals: Totals, state: &mut [u8], medium: &mut [u8]) -> Step
 
 // The totals of the session. A proved loop has to end, and nothing says that the input does, so it stops at a number of requests that no
 // session reaches. No total can overflow: each is at most the number of requests, and that is below the loop's bound.
-pub fn run(state: &mut [u8], medium: &mut [u8]) -> Totals
+pub fn run(state: &mut [u8], medium: &mut [u8], stage: &mut [u8]) -> Totals
     ensures { λ r. ⌜ Sums r ⌝ }
 {
     let mut totals = tally::none();
     while totals.requests < 18446744073709551615 {
-        let next = take_next(totals, state, medium);
+        let next = take_next(totals, state, medium, stage);
         let taken = next.taken;
         totals = next.totals;
         if tally::is_last(taken) {

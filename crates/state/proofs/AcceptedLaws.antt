@@ -11,6 +11,8 @@ use Rattle.laws.specs.Choice.{by-bool, both, came-then, both-zero}
 use Rattle.level.specs.Text.{textLevel}
 use Rattle.level.proofs.BoundLaws.{level-bound}
 use Rattle.rows.specs.Row.{rowsHold}
+use Rattle.adapter.specs.Staged.{stagedHolds}
+use Rattle.staged.proofs.Laws.{staged-none}
 use Rattle.adapter.specs.Adapter.{Adapter, countsHold, fieldsAll, zeroPast, mediumSize}
 use Rattle.link.specs.All.{negotiatedAll}
 use Rattle.layout.specs.Layout.{phyCount, rowCount}
@@ -68,6 +70,10 @@ open-accepted text file medium h =
     settles : (n : ℕ) (o : Opened) → Fine (cond (eqb n 0) o (refusedOpening n)) → n ≡ 0
     settles n o h = passes n o h .0
 
+none-staged : (file : List ℕ) → stagedHolds (fileAdapter file .staged) ≡ true
+unfolding adapterOf
+none-staged file = staged-none
+
 -- 107 accepts the state of an opening that gives 0
 pub open-holds : (text file medium : List ℕ) → openedOf text file medium .call ≡ 0 → stateHolds (openedOf text file medium .state) ≡ true
 unfolding stateHolds adapterHolds tablesHold
@@ -77,6 +83,8 @@ open-holds text file medium h =
     rw (o .opened)
     (both (leb (textLevel text .level .0) 3) (adapterHolds ad) (le-leb (textLevel text .level .0) 3 (level-bound text))
     (both (countsHold (ad .«phy_count») (ad .«row_count»)) (tablesHold ad) (counted file (o .read))
+    (both (fieldsAll ad && negotiatedAll ad && rowsHold (ad .rows) (ad .«row_count») && zeroPast ad) (stagedHolds (ad .staged))
     (both (fieldsAll ad && negotiatedAll ad && rowsHold (ad .rows) (ad .«row_count»)) (zeroPast ad)
     (both (fieldsAll ad && negotiatedAll ad) (rowsHold (ad .rows) (ad .«row_count»)) (both (fieldsAll ad) (negotiatedAll ad) (o .read .fields) (o .negotiated)) (o .rows))
-    (zero-read file (phyCount file) (rowCount file)))))
+    (zero-read file (phyCount file) (rowCount file)))
+    (none-staged file))))

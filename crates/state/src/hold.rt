@@ -43,6 +43,7 @@ fn tables_hold(tables: &[u8]) -> bool
         & negotiated::all_negotiated(tables)
         & rows_apart(tables)
         & rules::zero_past(tables)
+        & staged::staged_holds(tables)
 }
 
 fn counts_right(tables: &[u8]) -> bool

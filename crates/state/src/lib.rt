@@ -8,4 +8,4 @@ pub use hold::state_holds;
 pub use opening::open;
 
 // How many bytes a state has.
-pub const SIZE: usize = 6181;
+pub const SIZE: usize = 6190;

@@ -17,14 +17,14 @@ use Rattle.phy.specs.Entity.{byteOf, portOf}
 use Rattle.rows.specs.Row.{rowsSize, rowsOf}
 use Rattle.connectors.specs.Connector.{connectorsSize, connectorsOf}
 use Rattle.adapter.specs.Adapter.{phyIn}
-use Rattle.tables.specs.Tables.{tablesSize, phyStart, rowsStart, controllerStart, statusStart, connectorsStart, phyAt, tablesOf}
+use Rattle.tables.specs.Tables.{tablesSize, phyStart, rowsStart, controllerStart, statusStart, connectorsStart, stagedAt, phyAt, tablesOf}
 
 -- the rows
 pub rows-in : (t : List ℕ) → tablesOf t .rows ≡ rowsOf (part t rowsStart rowsSize)
 unfolding tablesOf
 rows-in t = refl
 
--- configuration, status and the connectors
+-- configuration, status, the connectors and what is staged
 pub controller-in : (t : List ℕ) → tablesOf t .controller ≡ part t controllerStart 176
 unfolding tablesOf
 controller-in t = refl
@@ -36,6 +36,10 @@ status-in t = refl
 pub connectors-in : (t : List ℕ) → tablesOf t .connectors ≡ connectorsOf (part t connectorsStart connectorsSize)
 unfolding tablesOf
 connectors-in t = refl
+
+pub staged-in : (t : List ℕ) → tablesOf t .staged ≡ stagedAt t
+unfolding tablesOf
+staged-in t = refl
 
 -- phy n
 pub phy-in : (t : List ℕ) (n : ℕ) → n < 32 → phyIn (tablesOf t) n ≡ phyAt t n

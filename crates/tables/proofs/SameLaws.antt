@@ -17,11 +17,12 @@ use Rattle.rows.specs.Row.{rowsSize}
 use Rattle.rows.proofs.SameLaws.{rows-same}
 use Rattle.connectors.specs.Connector.{connectorsSize}
 use Rattle.connectors.proofs.Laws.{connectors-same}
+use Rattle.adapter.specs.Staged.{Staged}
 use Rattle.adapter.specs.Adapter.{Adapter, phyIn}
 use Rattle.tables.specs.PhyBytes.{counterBytes}
 use Rattle.tables.proofs.PhyBytesLaws.{phyBytes}
-use Rattle.tables.specs.Tables.{tablesSize, physSize, phyStart, rowsStart, controllerStart, statusStart, connectorsStart, phyAt, tablesOf}
-use Rattle.tables.proofs.Laws.{phy-in, rows-in, controller-in, status-in, connectors-in}
+use Rattle.tables.specs.Tables.{tablesSize, physSize, phyStart, rowsStart, controllerStart, statusStart, connectorsStart, stagedStart, stagedAt, phyAt, tablesOf}
+use Rattle.tables.proofs.Laws.{phy-in, rows-in, controller-in, status-in, connectors-in, staged-in}
 use Rattle.tables.proofs.StoredLaws.{five}
 
 -- ---- a phy's bytes, read and written back
@@ -74,6 +75,9 @@ module _ (t u : List ℕ) (p : length t ≡ tablesSize) (q : length u ≡ tables
       connectors-same (part t connectorsStart connectorsSize) (part u connectorsStart connectorsSize) (length-part t connectorsStart connectorsSize (omega arith)) (length-part u connectorsStart connectorsSize (omega arith))
       (sym (connectors-in t) ∙ ap (λ (a : Adapter). a .connectors) e ∙ connectors-in u)
 
+  staged-here : stagedAt t ≡ stagedAt u
+  staged-here = sym (staged-in t) ∙ ap (λ (a : Adapter). a .staged) e ∙ staged-in u
+
   -- equal parts, byte by byte
   byte-in : (at n i : ℕ) → part t at n ≡ part u at n → i < n → getD t (at + i) 0 ≡ getD u (at + i) 0
   byte-in at n i s l = sym (getD-part t at n i 0 l) ∙ ap (λ (x : List ℕ). getD x i 0) s ∙ getD-part u at n i 0 l
@@ -104,6 +108,13 @@ module _ (t u : List ℕ) (p : length t ≡ tablesSize) (q : length u ≡ tables
   split i k below above =
       by-bool (λ (c : Bool). ltb i k ≡ c → Same i) (λ c. below (ltb-true i k c)) (λ c. above (ltb-false i k c)) (ltb i k) refl
 
+  in-staged : (i : ℕ) → stagedStart ≤ i → i < tablesSize → Same i
+  in-staged i l m =
+      split i (stagedStart + 1)
+      (λ a. let s : stagedStart ≡ i = omega arith in
+      rw s at (ap (λ (x : Staged). x .flag) staged-here))
+      (λ a. within (stagedStart + 1) 8 i (ap (λ (x : Staged). x .revisions) staged-here) a (omega arith))
+
   pub tables-same : t ≡ u
   tables-same = ext-getD 0 t u (p ∙ sym q) (λ i l. at i (rw p at l))
     where
@@ -116,4 +127,5 @@ module _ (t u : List ℕ) (p : length t ≡ tablesSize) (q : length u ≡ tables
           (λ b. split i controllerStart (λ c. within rowsStart rowsSize i rows-here b (omega arith))
           (λ c. split i statusStart (λ d. within controllerStart 176 i controller-here c (omega arith))
           (λ d. split i connectorsStart (λ f. within statusStart 36 i status-here d (omega arith))
-          (λ f. within connectorsStart connectorsSize i connectors-here f (omega arith))))))
+          (λ f. split i stagedStart (λ g. within connectorsStart connectorsSize i connectors-here f (omega arith))
+          (λ g. in-staged i g l))))))

@@ -4,6 +4,7 @@ use mathlib.Core.Logic.{_≢_}
 use mathlib.Core.Bool.{Bool}
 use mathlib.Core.List.{List, [], _∷_, _++_, append-assoc}
 use Prim.Native.Nat.{ℕ, _+_, _-_, _<_, _≤_}
+use native.Mathlib.Nat.{add-zero}
 use native.Mathlib.Omega.{arith}
 use lib.Dec.{ltb}
 use lib.ListN.{length, getD, take, drop, length-append}
@@ -12,7 +13,7 @@ use Rattle.laws.specs.Choice.{by-bool}
 use mir.Syntax.{w32}
 use mir.Val.{Fits}
 use Rattle.laws.specs.Fill.{listTo-set}
-use Rattle.laws.specs.Splice.{part, splice, splice-next, length-part, part-splice, part-below, part-above, part-first, part-behind, get-below, get-behind, lent-back, splice-all}
+use Rattle.laws.specs.Splice.{part, splice, splice-next, length-part, part-splice, part-below, part-above, part-first, part-behind, getD-part, get-below, get-behind, lent-back, splice-all}
 use Rattle.wire.specs.Number.{number, bytes}
 use Rattle.wire.proofs.NumberLaws.{length-bytes, number-bytes}
 use Rattle.phy.specs.declared.Phy.{Phy}
@@ -22,7 +23,7 @@ use Rattle.connectors.specs.Connector.{connectorsSize}
 use Rattle.adapter.specs.Adapter.{withPhy}
 use Rattle.tables.specs.PhyBytes.{counterBytes, lastBytes, written}
 use Rattle.tables.proofs.PhyBytesLaws.{phyBytes}
-use Rattle.tables.specs.Tables.{tablesSize, phyStart, rowsStart, controllerStart, statusStart, connectorsStart, phyAt, tablesOf}
+use Rattle.tables.specs.Tables.{tablesSize, phyStart, rowsStart, controllerStart, statusStart, connectorsStart, stagedStart, phyAt, tablesOf}
 
 -- ---- a store of a phy's bytes at phy n's place
 
@@ -45,6 +46,12 @@ module _ (t b : List ℕ) (n : ℕ) (size : length t ≡ tablesSize) (h : n < 32
   behind : (at m : ℕ) → rowsStart ≤ at → part after at m ≡ part t at m
   behind at m l = part-above t (phyStart n) b at m (omega arith) (omega arith)
 
+  byte-behind : (i : ℕ) → rowsStart ≤ i → getD after i 0 ≡ getD t i 0
+  byte-behind i l = byte-of after i ∙ ap (λ (x : List ℕ). getD x 0 0) (behind i 1 l) ∙ sym (byte-of t i)
+    where
+      byte-of : (x : List ℕ) (j : ℕ) → getD x j 0 ≡ getD (part x j 1) 0 0
+      byte-of x j = sym (getD-part x j 1 0 0 (omega arith) ∙ rw add-zero refl)
+
   -- the tables after it are those before with another phy n
   tables-stored : (phy : Phy) → phyOf b ≡ phy → tablesOf after ≡ withPhy (tablesOf t) n phy
   unfolding tablesOf withPhy
@@ -58,6 +65,8 @@ module _ (t b : List ℕ) (n : ℕ) (size : length t ≡ tablesSize) (h : n < 32
         behind controllerStart 176 (omega arith),
         behind statusStart 36 (omega arith),
         behind connectorsStart connectorsSize (omega arith),
+        byte-behind stagedStart (omega arith),
+        behind (stagedStart + 1) 8 (omega arith),
       )
 
 -- ---- what a phy's bytes read back as

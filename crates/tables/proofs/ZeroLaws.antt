@@ -12,7 +12,7 @@ use Rattle.rows.specs.Row.{rowOf, rowsSize, rowStart, rowsOf, zeroRow}
 use Rattle.connectors.specs.Connector.{connectorsSize, connectorsOf, zeroConnector}
 use Rattle.connectors.proofs.Laws.{zero-connectors}
 use Rattle.adapter.specs.Adapter.{zeroAdapter}
-use Rattle.tables.specs.Tables.{tablesSize, phyStart, rowsStart, controllerStart, statusStart, connectorsStart, phyAt, tablesOf}
+use Rattle.tables.specs.Tables.{tablesSize, phyStart, rowsStart, controllerStart, statusStart, connectorsStart, stagedStart, phyAt, tablesOf}
 
 -- a phy and a row
 pub phy-zeros : phyOf (zeros phySize) ≡ zeroPhy
@@ -45,4 +45,6 @@ zero-tables =
     let a = getD-replicate {A = ℕ} tablesSize 1 0 0 (omega arith) in
     let c = part-replicate {A = ℕ} tablesSize controllerStart 176 0 (omega arith) in
     let s = part-replicate {A = ℕ} tablesSize statusStart 36 0 (omega arith) in
+    let f = getD-replicate {A = ℕ} tablesSize stagedStart 0 0 (omega arith) in
+    let v = part-replicate {A = ℕ} tablesSize (stagedStart + 1) 8 0 (omega arith) in
     cc (phys-zeros, rows-zeros, connectors-zeros, part-replicate {A = ℕ} tablesSize 2 174 0 (omega arith))

@@ -11,9 +11,9 @@ ghost use lib.Dec.{ltb};
 ghost use lib.ListN.{length};
 ghost use Rattle.tables.specs.Tables.{tablesSize, tablesOf};
 
-// How many bytes the tables have, and where the driver info, the phys, the rows, the controller's configuration and status and the
-// connectors start.
-pub const SIZE: usize = 6180;
+// How many bytes the tables have, and where the driver info, the phys, the rows, the controller's configuration and status, the
+// connectors and what is staged start.
+pub const SIZE: usize = 6189;
 
 pub const INFO: usize = 2;
 
@@ -29,6 +29,9 @@ pub const CONTROLLER: usize = 4816;
 pub const STATUS: usize = 4992;
 
 pub const CONNECTORS: usize = 5028;
+
+// The byte that says whether firmware is staged; its revisions stand behind it.
+pub const STAGED: usize = 6180;
 
 pub fn phy_count(tables: &[u8]) -> u8
     requires { ⌜ length (now tables) ≡ tablesSize ⌝ }

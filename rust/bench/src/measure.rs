@@ -48,6 +48,7 @@ impl Times {
 /// Fresh copies of what a run writes.
 pub struct Copies {
     medium: Vec<u8>,
+    stage: Vec<u8>,
     session: Vec<u8>,
     record: Vec<u8>,
 }
@@ -56,6 +57,7 @@ impl Copies {
     pub fn of(case: &Case) -> Self {
         Copies {
             medium: case.medium.clone(),
+            stage: case.stage.clone(),
             session: case.session.clone(),
             record: case.record.clone(),
         }
@@ -68,6 +70,7 @@ pub fn measured(side: Side, case: &Case, copies: &mut Copies) -> usize {
     let written = Written {
         framing: case.framing,
         medium: &mut copies.medium,
+        stage: &mut copies.stage,
         session: &mut copies.session,
         record: &mut copies.record,
     };

@@ -3,6 +3,7 @@
 use crate::names::record;
 use crate::request::{Header, Request};
 use crate::session::Framing;
+use crate::stage;
 use crate::wire::word;
 
 #[derive(Clone)]
@@ -11,6 +12,7 @@ pub struct Case {
     pub text: Vec<u8>,
     pub file: Vec<u8>,
     pub medium: Vec<u8>,
+    pub stage: Vec<u8>,
     pub framing: Framing,
     pub session: Vec<u8>,
     /// The record as it is before.
@@ -22,6 +24,7 @@ pub struct Outcome {
     pub opening: u32,
     pub handled: usize,
     pub medium: Vec<u8>,
+    pub stage: Vec<u8>,
     pub session: Vec<u8>,
     pub record: Vec<u8>,
     /// The state at the end; the library's run keeps its own inside.
@@ -48,7 +51,7 @@ impl Exchange<'_> {
 }
 
 impl Case {
-    /// A case whose record has room for every request.
+    /// A case whose record has room for every request; its stage goes with the seed.
     pub fn of_requests(
         seed: u64,
         text: &[u8],
@@ -62,6 +65,7 @@ impl Case {
             text: text.to_vec(),
             file: file.to_vec(),
             medium: medium.to_vec(),
+            stage: stage::of_seed(seed),
             framing,
             session: framing.join(requests),
             record: vec![0x5A; record::SIZE * requests.len()],

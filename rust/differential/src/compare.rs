@@ -40,7 +40,7 @@ pub fn compare(case: &Case) -> Result<Outcome, Difference> {
     Ok(model)
 }
 
-/// The opening, the count, the requests in their order, what follows them, the medium.
+/// The opening, the count, the requests in their order, what follows them, the medium, the stage.
 fn equal_runs(case: &Case, library: &Outcome, model: &Outcome) -> Result<(), String> {
     equal("opening", library.opening, model.opening)?;
     equal("requests handled", library.handled, model.handled)?;
@@ -50,7 +50,8 @@ fn equal_runs(case: &Case, library: &Outcome, model: &Outcome) -> Result<(), Str
     }
     equal_bytes("session", &library.session, &model.session)?;
     equal_bytes("record", &library.record, &model.record)?;
-    equal_bytes("medium", &library.medium, &model.medium)
+    equal_bytes("medium", &library.medium, &model.medium)?;
+    equal_bytes("stage", &library.stage, &model.stage)
 }
 
 fn equal_replies(library: &Exchange, model: &Exchange) -> Result<(), String> {
@@ -67,10 +68,10 @@ fn equal<T: PartialEq + fmt::Display>(name: &str, library: T, model: T) -> Resul
 }
 
 /// The same opening and requests by the calls, one at a time, over a state of other bytes: after each both sides are equal, and the
-/// replies, the state and the medium are those of the run, which both sides gave.
+/// replies, the state, the medium and the stage are those of the run, which both sides gave.
 fn by_calls(case: &Case, run: &Outcome) -> Result<(), String> {
     let before = Random::new(case.seed).bytes(state::SIZE);
-    let mut pair = Pair::of(&before, &case.medium);
+    let mut pair = Pair::lending(&before, &case.medium, &case.stage);
     let number = pair
         .open(&case.text, &case.file)
         .map_err(|what| format!("opening by call: {what}"))?;
@@ -80,7 +81,8 @@ fn by_calls(case: &Case, run: &Outcome) -> Result<(), String> {
     }
     let state = run.state.as_deref().unwrap_or_default();
     equal_bytes("state by calls and of the run", pair.state(), state)?;
-    equal_bytes("medium by calls and of the run", pair.medium(), &run.medium)
+    equal_bytes("medium by calls and of the run", pair.medium(), &run.medium)?;
+    equal_bytes("stage by calls and of the run", pair.stage(), &run.stage)
 }
 
 fn call(pair: &mut Pair, in_run: &Exchange) -> Result<(), String> {

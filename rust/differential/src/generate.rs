@@ -3,12 +3,13 @@
 use crate::adapter::form::Form;
 use crate::adapter::{damage, Adapter};
 use crate::case::Case;
-use crate::medium;
-use crate::names::record;
+use crate::names::{code, record, CONTROLLER_CONFIG};
 use crate::random::Random;
-use crate::request::{self, Request};
+use crate::request::firmware::Download;
+use crate::request::{self, first, linux, Request};
 use crate::session::{end, Framing};
 use crate::text::{self, FULL, LIMITED, NONE, RESTRICTED};
+use crate::{medium, stage};
 
 /// An opening: what the calls start from.
 pub struct Opening {
@@ -81,7 +82,44 @@ pub fn requests_of(
         Framing::First => request::first::any,
         Framing::Both => request::any,
     };
-    (0..count).map(|_| any(random, adapter)).collect()
+    let mut requests = Vec::new();
+    while requests.len() < count {
+        if random.one_in(40) {
+            requests.extend(update(random, framing));
+        } else {
+            requests.push(any(random, adapter));
+        }
+    }
+    requests.truncate(count);
+    requests
+}
+
+/// An image validated, made current, and its revisions shown.
+fn update(random: &mut Random, framing: Framing) -> [Request; 3] {
+    let bodies = [
+        Download::validation(random).body(random),
+        Download::commit(random).body(random),
+        random.bytes(CONTROLLER_CONFIG),
+    ];
+    let [validation, commit, shown] = bodies;
+    [
+        (code::FIRMWARE_DOWNLOAD, validation),
+        (code::FIRMWARE_DOWNLOAD, commit),
+        (code::CNTLR_CONFIG, shown),
+    ]
+    .map(|(control, body)| headed(random, framing, control, &body))
+}
+
+/// A body behind a header that a session of this framing may hold.
+fn headed(random: &mut Random, framing: Framing, control: u32, body: &[u8]) -> Request {
+    let linux = framing == Framing::Both && random.one_in(2);
+    let (of_body, fill): (request::OfBody, fn(&mut Random, &mut Request)) = match linux {
+        true => (linux::of_body, linux::fill),
+        false => (first::of_body, first::fill),
+    };
+    let mut request = of_body(control, body);
+    fill(random, &mut request);
+    request
 }
 
 /// A case: an opening, which is damaged one time in eight, a session of up to so many requests, with any end, and a record.
@@ -102,6 +140,7 @@ pub fn case(seed: u64, most: usize, framing: Framing) -> Case {
         text: opening.text,
         file: opening.file,
         medium: opening.medium,
+        stage: stage::any(random),
         framing,
         session,
         record: random.bytes(record),

@@ -75,7 +75,7 @@ fn programmed(entity: &[u8]) -> (u8, u8) {
 }
 
 /// The medium after a run, and the programmed rates of its state where the side shows it, are what the last writers left. After a refused
-/// opening the medium is what it was, and the state is zero. Gives the number of phys whose rates were compared.
+/// opening medium and stage are what they were, and the state is zero. Gives the number of phys whose rates were compared.
 pub fn check(case: &Case, outcome: &Outcome) -> Result<usize, String> {
     if outcome.opening != call::DONE {
         return check_refused(case, outcome);
@@ -95,6 +95,9 @@ pub fn check(case: &Case, outcome: &Outcome) -> Result<usize, String> {
 
 fn check_refused(case: &Case, outcome: &Outcome) -> Result<usize, String> {
     equal_media(&case.medium, &outcome.medium)?;
+    if case.stage != outcome.stage {
+        return Err("a refused opening altered the stage".to_string());
+    }
     match &outcome.state {
         Some(state) if *state != [0; state::SIZE] => {
             Err("a refused opening left a state".to_string())

@@ -1,5 +1,6 @@
 //! Numbers and offsets: the model's, the library's prefixes, lines and totals of a session, and what the comparison has besides.
 
+use crate::wire::word;
 pub use library::{prefix, record, totals};
 pub use model::codes::{
     ata, device, direction, fis_type, link_error, pinout, rate, status, NOT_GIVEN,
@@ -7,7 +8,8 @@ pub use model::codes::{
 pub use model::layout::{
     connector, connector_info, device_address, file, fis, header, link_errors, linux_header,
     phy_info, row, sata_signature, scsi_address, set_phy_info, state, stp, CONTROLLER_CONFIG,
-    CONTROLLER_STATUS, DISK, DRIVER_INFO, ENTITY, MAX_PHYS, MAX_ROWS, SECTOR, SECTORS,
+    CONTROLLER_STATUS, DISK, DRIVER_INFO, ENTITY, MAX_PHYS, MAX_ROWS, REVISIONS, SECTOR, SECTORS,
+    STAGE,
 };
 
 /// The call's numbers.
@@ -23,17 +25,18 @@ pub mod call {
         SHARED_ROW,
         MEDIUM_LENGTH,
     ];
-    /// Every number of a request, in a run; a call on any state knows 106 too.
-    pub const REQUESTS: [u32; 3] = [DONE, BUFFER_LENGTH, STATE];
+    /// Every number of a request; in a run 106 is the stage's.
+    pub const REQUESTS: [u32; 4] = [DONE, BUFFER_LENGTH, MEDIUM_LENGTH, STATE];
 }
 
 /// Control codes.
 pub mod code {
     pub use model::codes::control::*;
-    pub const ALL: [u32; 11] = [
+    pub const ALL: [u32; 12] = [
         DRIVER_INFO,
         CNTLR_CONFIG,
         CNTLR_STATUS,
+        FIRMWARE_DOWNLOAD,
         PHY_INFO,
         SET_PHY_INFO,
         LINK_ERRORS,
@@ -54,6 +57,14 @@ pub mod phy {
     pub use model::layout::phy::*;
 }
 
+/// Code 4, and an image of it.
+pub mod firmware {
+    pub use model::codes::firmware::*;
+    pub use model::layout::controller_config::FIRMWARE_REVISIONS;
+    pub use model::layout::firmware::*;
+    pub use model::layout::image::MAX_BLOCKS;
+}
+
 /// The longest request that the program takes; the library takes longer ones.
 pub const PROGRAM_LONGEST: usize = 32_768;
 
@@ -63,17 +74,29 @@ pub const CSMI_SAS: [u8; 8] = *b"CSMISAS\0";
 /// The signature of a code's header.
 pub fn signature(control: u32) -> [u8; 8] {
     match control {
-        code::DRIVER_INFO | code::CNTLR_CONFIG | code::CNTLR_STATUS => CSMI_ALL,
+        code::DRIVER_INFO | code::CNTLR_CONFIG | code::CNTLR_STATUS | code::FIRMWARE_DOWNLOAD => {
+            CSMI_ALL
+        }
         _ => CSMI_SAS,
     }
 }
 
-/// The size of a code's structure without header; of code 25, without bDataBuffer.
+/// The length of the data behind a code's structure, which the body holds: uBufferLength of code 4, uDataLength of code 25, 0 of the others.
+pub fn data_length(control: u32, body: &[u8]) -> usize {
+    match control {
+        code::FIRMWARE_DOWNLOAD => word(body, firmware::BUFFER_LENGTH) as usize,
+        code::STP_PASSTHRU => word(body, stp::DATA_LENGTH) as usize,
+        _ => 0,
+    }
+}
+
+/// The size of a code's structure without header; of codes 4 and 25, without bDataBuffer.
 pub fn body_size(control: u32) -> Option<usize> {
     match control {
         code::DRIVER_INFO => Some(DRIVER_INFO),
         code::CNTLR_CONFIG => Some(CONTROLLER_CONFIG),
         code::CNTLR_STATUS => Some(CONTROLLER_STATUS),
+        code::FIRMWARE_DOWNLOAD => Some(firmware::DATA),
         code::PHY_INFO => Some(phy_info::SIZE),
         code::SET_PHY_INFO => Some(set_phy_info::SIZE),
         code::LINK_ERRORS => Some(link_errors::SIZE),
@@ -89,7 +112,8 @@ pub fn body_size(control: u32) -> Option<usize> {
 #[cfg(test)]
 mod tests {
     #[test]
-    fn the_library_and_the_model_have_states_of_one_size() {
+    fn the_library_and_the_model_have_states_and_stages_of_one_size() {
         assert_eq!(library::STATE_SIZE, super::state::SIZE);
+        assert_eq!(library::STAGE_SIZE, super::STAGE);
     }
 }

@@ -1,10 +1,11 @@
-//! Which requests document 01 calls denied, and which granted; the need of code 22 is W-202's.
+//! Which requests document 01 calls denied, and which granted; the need of code 22 is W-202's, that of code 4 W-207's.
 
 use crate::case::Exchange;
 use crate::names::direction::{DATA_READ, DATA_WRITE};
 use crate::names::link_error::RESET_COUNTS;
 use crate::names::{
-    body_size, call, code, header as first, link_errors, linux_header, signature, status, stp,
+    body_size, call, code, data_length, header as first, link_errors, linux_header, signature,
+    status, stp,
 };
 use crate::request::{fis, Header};
 use crate::text::{FULL, LIMITED, RESTRICTED};
@@ -31,6 +32,7 @@ fn of_command(command: u8) -> u8 {
 /// The lowest level that may do a request with the first header, whose body is whole.
 fn of_request(control: u32, body: &[u8]) -> u8 {
     match control {
+        code::FIRMWARE_DOWNLOAD => LIMITED,
         code::SET_PHY_INFO => FULL,
         code::LINK_ERRORS if body[link_errors::RESET] == RESET_COUNTS => FULL,
         code::STP_PASSTHRU => of_command(body[stp::COMMAND_FIS + fis::COMMAND]),
@@ -80,15 +82,6 @@ fn passes_length(header: Header, request: &[u8]) -> bool {
     let (counted, inside) = (header.counted(), body.len());
     let whole = length >= counted + size && length <= counted + inside;
     whole && length >= counted + size + data_length(control, body)
-}
-
-/// uDataLength of code 25, whose structure is inside the buffer; 0 of the others.
-fn data_length(control: u32, body: &[u8]) -> usize {
-    if control == code::STP_PASSTHRU {
-        word(body, stp::DATA_LENGTH) as usize
-    } else {
-        0
-    }
 }
 
 /// Granted: the call's number is 0 and the return code says success, or that the phy info has changed.

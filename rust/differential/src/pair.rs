@@ -1,19 +1,15 @@
-//! The calls on both implementations at once: after each call the number and every byte of state, medium and buffer have to
+//! The calls on both implementations at once: after each call the number and every byte of state, medium, stage and buffer have to
 //! be equal.
 
+use crate::firmware::is_granted_validation;
+use crate::lent::Lent;
 use crate::names::{call, state};
 use crate::request::Request;
 use crate::side::Side;
+use crate::stage;
 use crate::wire::{equal_bytes, first_difference};
 
-/// What a caller lends to one side.
-struct Lent {
-    side: Side,
-    state: Vec<u8>,
-    medium: Vec<u8>,
-}
-
-/// The same state and medium on both sides.
+/// The same state, medium and stage on both sides.
 pub struct Pair {
     library: Lent,
     model: Lent,
@@ -25,15 +21,20 @@ pub struct Reply {
 }
 
 impl Pair {
+    /// With a stage of other bytes.
     pub fn of(state: &[u8], medium: &[u8]) -> Self {
-        let lent = |side| Lent {
-            side,
+        Pair::lending(state, medium, &stage::of_seed(0))
+    }
+
+    pub fn lending(state: &[u8], medium: &[u8], stage: &[u8]) -> Self {
+        let lent = Lent {
             state: state.to_vec(),
             medium: medium.to_vec(),
+            stage: stage.to_vec(),
         };
         Pair {
-            library: lent(Side::Library),
-            model: lent(Side::Model),
+            library: lent.clone(),
+            model: lent,
         }
     }
 
@@ -45,6 +46,10 @@ impl Pair {
         &self.library.medium
     }
 
+    pub fn stage(&self) -> &[u8] {
+        &self.library.stage
+    }
+
     /// Another state of the same length, which both are lent from now on.
     pub fn lend(&mut self, state: &[u8]) {
         self.library.state.copy_from_slice(state);
@@ -53,11 +58,20 @@ impl Pair {
 
     /// An opening over the state as it is: the number.
     pub fn open(&mut self, text: &[u8], file: &[u8]) -> Result<u32, String> {
-        let [library, model] = [&mut self.library, &mut self.model]
-            .map(|lent| lent.side.open(text, file, &lent.medium, &mut lent.state));
+        let [library, model] = self
+            .both()
+            .map(|(side, lent)| side.open(text, file, &lent.medium, &mut lent.state));
         equal_numbers(library, model)?;
         self.equal_bytes()?;
         Ok(library)
+    }
+
+    /// Each side with what it is lent.
+    fn both(&mut self) -> [(Side, &mut Lent); 2] {
+        [
+            (Side::Library, &mut self.library),
+            (Side::Model, &mut self.model),
+        ]
     }
 
     /// Asserts that an opening at Full has this number, over a state of other bytes: it leaves the state that is expected, or the zero state.
@@ -72,15 +86,12 @@ impl Pair {
         assert!(right, "{what}: the state");
     }
 
-    /// One request. With a number other than 0, state and buffer are also held against what they were.
+    /// One request. With a number other than 0, state and buffer are also held against what they were, and so is the stage but for a granted
+    /// validation.
     pub fn request(&mut self, request: &Request) -> Result<Reply, String> {
-        let before = self.library.state.clone();
-        let [library, model] = [&mut self.library, &mut self.model].map(|lent| {
-            let mut buffer = request.buffer.clone();
-            let (state, medium) = (&mut lent.state, &mut lent.medium);
-            let number = lent
-                .side
-                .request(request.header, state, medium, &mut buffer);
+        let (state, stage) = (self.state().to_vec(), self.stage().to_vec());
+        let [library, model] = self.both().map(|(side, lent)| {
+            let (number, buffer) = lent.request(side, request);
             Reply { number, buffer }
         });
         equal_numbers(library.number, model.number)?;
@@ -88,7 +99,10 @@ impl Pair {
         self.equal_bytes()?;
         if library.number != call::DONE {
             untouched("buffer", &request.buffer, &library.buffer)?;
-            untouched("state", &before, &self.library.state)?;
+            untouched("state", &state, self.state())?;
+        }
+        if !is_granted_validation(request, library.number, &library.buffer) {
+            untouched("stage", &stage, self.stage())?;
         }
         Ok(library)
     }
@@ -96,7 +110,8 @@ impl Pair {
     fn equal_bytes(&self) -> Result<(), String> {
         let (library, model) = (&self.library, &self.model);
         equal_bytes("state", &library.state, &model.state)?;
-        equal_bytes("medium", &library.medium, &model.medium)
+        equal_bytes("medium", &library.medium, &model.medium)?;
+        equal_bytes("stage", &library.stage, &model.stage)
     }
 }
 
@@ -111,6 +126,8 @@ pub fn equal_numbers(library: u32, model: u32) -> Result<(), String> {
 fn untouched(name: &str, before: &[u8], after: &[u8]) -> Result<(), String> {
     match first_difference(before, after) {
         None => Ok(()),
-        Some(at) => Err(format!("{name}, byte {at} is touched by a refusal")),
+        Some(at) => Err(format!(
+            "{name}, byte {at} is touched by a request that may not"
+        )),
     }
 }

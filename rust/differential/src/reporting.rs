@@ -1,18 +1,18 @@
 //! W-204's one statement: of codes 1, 2, 3, 20, 22, 26, 27, 28 and 30 "none alters the state or the medium, but for the reset of W-202",
 //! refused or granted, with either header and at every level. The reset is of the counters of the phy that a granted code 22 with reset
-//! byte 1 names.
+//! byte 1 names. Nor do they alter the stage of W-207.
 
 use crate::adapter::damage::{self, Damage};
 use crate::adapter::form::Form;
 use crate::adapter::Adapter;
-use crate::medium;
+use crate::lent::Lent;
 use crate::names::link_error::RESET_COUNTS;
 use crate::names::{call, code, link_errors as at, phy, state, status};
 use crate::random::Random;
 use crate::request::{fault, first, linux, Header, Request};
-use crate::sameness::Lent;
 use crate::side::{return_code, Side};
 use crate::text::LEVELS;
+use crate::{medium, stage};
 
 /// The codes that it speaks of.
 pub const REPORTING: [u32; 9] = [
@@ -74,9 +74,8 @@ pub struct Answer {
 /// Checks the statement on one side. What is lent is then as the request leaves it.
 pub fn check(side: Side, lent: &mut Lent, request: &Request) -> Result<Answer, String> {
     let mut expected = lent.clone();
-    let mut reply = request.buffer.clone();
     let header = request.header;
-    let number = side.request(header, &mut lent.state, &mut lent.medium, &mut reply);
+    let (number, reply) = lent.request(side, request);
     let code = return_code(number, header, &reply);
     let granted = number == call::DONE && code == status::SUCCESS;
     let reset = granted.then(|| resets(header, &request.buffer)).flatten();
@@ -89,18 +88,21 @@ pub fn check(side: Side, lent: &mut Lent, request: &Request) -> Result<Answer, S
     if lent.medium != expected.medium {
         return Err("the medium is altered".to_string());
     }
+    if lent.stage != expected.stage {
+        return Err("the stage is altered".to_string());
+    }
     Ok(Answer {
         control: (!request.is_short()).then(|| request.control()),
         linux: header.is_linux(),
-        level: lent.state.get(state::LEVEL).copied().unwrap_or_default(),
+        level: lent.level(),
         number,
         code,
         reset: reset.is_some(),
     })
 }
 
-/// So many requests one after the other on one side, each at any level; some to a state that breaks a rule, or with a medium of another
-/// length, which the others do not see.
+/// So many requests one after the other on one side, each at any level; some to a state that breaks a rule, or with a medium or a stage of
+/// another length, which the others do not see.
 pub fn walk(
     side: Side,
     seed: u64,
@@ -110,10 +112,7 @@ pub fn walk(
     let random = &mut Random::new(seed);
     let adapter = Adapter::sound(random);
     let broken = damage::all(Form::State);
-    let mut lent = Lent {
-        state: adapter.state(0),
-        medium: random.bytes(adapter.medium_length()),
-    };
+    let mut lent = Lent::of(random, &adapter, 0);
     for n in 0..count {
         let level = random.pick(&LEVELS);
         lent.state[state::LEVEL] = level;
@@ -131,17 +130,13 @@ pub fn walk(
     Ok(())
 }
 
-/// A state with a broken rule, or a sound one with a wrong medium.
+/// A state with a broken rule, or a sound one with a wrong medium or stage.
 fn refused(random: &mut Random, adapter: &Adapter, broken: &[&Damage], level: u8) -> Lent {
-    let damaged = random.pick(broken).state(random, adapter, level);
-    match damaged {
-        Some(state) => Lent {
-            state,
-            medium: random.bytes(adapter.medium_length()),
-        },
-        None => Lent {
-            state: adapter.state(level),
-            medium: medium::of_wrong_length(random, adapter.phys.len()),
-        },
+    let mut lent = Lent::of(random, adapter, level);
+    match random.pick(broken).state(random, adapter, level) {
+        Some(state) => lent.state = state,
+        None if random.one_in(2) => lent.stage = stage::of_wrong_length(random),
+        None => lent.medium = medium::of_wrong_length(random, adapter.phys.len()),
     }
+    lent
 }

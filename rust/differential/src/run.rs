@@ -11,6 +11,7 @@ use model::State;
 pub struct Written<'a> {
     pub framing: Framing,
     pub medium: &'a mut [u8],
+    pub stage: &'a mut [u8],
     pub session: &'a mut [u8],
     pub record: &'a mut [u8],
 }
@@ -20,12 +21,13 @@ pub fn library(text: &[u8], file: &[u8], written: Written) -> usize {
     let Written {
         framing,
         medium,
+        stage,
         session,
         record,
     } = written;
     match framing {
-        Framing::First => library::run(text, file, medium, session, record),
-        Framing::Both => library::run_both(text, file, medium, session, record),
+        Framing::First => library::run(text, file, medium, stage, session, record),
+        Framing::Both => library::run_both(text, file, medium, stage, session, record),
     }
 }
 
@@ -39,8 +41,8 @@ pub fn calls<T>(
 ) -> (usize, T) {
     let mut state = [0; state::SIZE];
     side.open(text, file, written.medium, &mut state);
-    let handled = each_request(written, |header, medium, buffer| {
-        side.request(header, &mut state, medium, buffer)
+    let handled = each_request(written, |header, medium, stage, buffer| {
+        side.request(header, &mut state, medium, stage, buffer)
     });
     (handled, end(&state))
 }
@@ -52,17 +54,23 @@ pub fn model<T>(
     end: impl FnOnce(&State) -> T,
 ) -> (usize, T) {
     let (_, mut state) = model::open(text, file, written.medium);
-    let handled = each_request(written, |header, medium, buffer| {
-        request(header, &mut state, medium, buffer)
+    let handled = each_request(written, |header, medium, stage, buffer| {
+        request(header, &mut state, medium, stage, buffer)
     });
     (handled, end(&state))
 }
 
 /// The model's call of a header.
-pub fn request(header: Header, state: &mut State, medium: &mut [u8], buffer: &mut [u8]) -> u32 {
+pub fn request(
+    header: Header,
+    state: &mut State,
+    medium: &mut [u8],
+    stage: &mut [u8],
+    buffer: &mut [u8],
+) -> u32 {
     match header {
-        Header::First => model::request(state, medium, buffer),
-        Header::Linux { control } => model::request_linux(state, medium, control, buffer),
+        Header::First => model::request(state, medium, stage, buffer),
+        Header::Linux { control } => model::request_linux(state, medium, stage, control, buffer),
     }
 }
 
@@ -74,31 +82,38 @@ pub fn tested_once<T>(
     end: impl FnOnce(&State) -> T,
 ) -> (usize, T) {
     let (_, mut state) = model::open(text, file, written.medium);
-    let handled = match model::tested(&state, written.medium) {
-        Ok(()) => each_request(written, |header, medium, buffer| {
-            answer(header, &mut state, medium, buffer)
+    let handled = match model::tested(&state, written.medium, written.stage) {
+        Ok(()) => each_request(written, |header, medium, stage, buffer| {
+            answer(header, &mut state, medium, stage, buffer)
         }),
-        Err(number) => each_request(written, |_, _, _| number),
+        Err(number) => each_request(written, |_, _, _, _| number),
     };
     (handled, end(&state))
 }
 
-/// The model's call of a header without its first two checks.
-pub fn answer(header: Header, state: &mut State, medium: &mut [u8], buffer: &mut [u8]) -> u32 {
+/// The model's call of a header without its first three checks.
+pub fn answer(
+    header: Header,
+    state: &mut State,
+    medium: &mut [u8],
+    stage: &mut [u8],
+    buffer: &mut [u8],
+) -> u32 {
     match header {
-        Header::First => model::answer(state, medium, buffer),
-        Header::Linux { control } => model::answer_linux(state, medium, control, buffer),
+        Header::First => model::answer(state, medium, stage, buffer),
+        Header::Linux { control } => model::answer_linux(state, medium, stage, control, buffer),
     }
 }
 
 /// The requests of a session in their order, as far as the record has room: the number of those handled.
 fn each_request(
     written: Written,
-    mut handle: impl FnMut(Header, &mut [u8], &mut [u8]) -> u32,
+    mut handle: impl FnMut(Header, &mut [u8], &mut [u8], &mut [u8]) -> u32,
 ) -> usize {
     let Written {
         framing,
         medium,
+        stage,
         session,
         record,
     } = written;
@@ -110,7 +125,7 @@ fn each_request(
         };
         at = place.end;
         let buffer = &mut session[place];
-        let number = handle(header, medium, buffer);
+        let number = handle(header, medium, stage, buffer);
         put_word(line, record::NUMBER, number);
         put_word(line, record::CODE, return_code(number, header, buffer));
         handled += 1;

@@ -2,13 +2,14 @@
 //! (but the level) as one with the same code and body that passes the other header's checks, at Full".
 
 use crate::adapter::Adapter;
-use crate::names::{body_size, call, code, state, stp};
+use crate::lent::Lent;
+use crate::names::{body_size, call, data_length, state};
 use crate::need::passes_header;
 use crate::random::Random;
 use crate::request::{any_code, fault, first, linux, sound, Request};
 use crate::side::{return_code, Side};
 use crate::text::{FULL, LEVELS};
-use crate::wire::{put_word, word};
+use crate::wire::put_word;
 
 /// One code and body behind each header, both of which pass their header's checks. The two Lengths need not agree.
 pub struct Twins {
@@ -53,60 +54,46 @@ impl Twins {
     }
 }
 
-/// The smallest Length without header: the structure, and of code 25 its data.
+/// The smallest Length without header: the structure, and of codes 4 and 25 their data. None if the structure is cut.
 fn least_length(control: u32, body: &[u8]) -> Option<usize> {
-    let size = body_size(control)?;
-    match control {
-        code::STP_PASSTHRU if size <= body.len() => {
-            Some(size + word(body, stp::DATA_LENGTH) as usize)
-        }
-        _ => Some(size),
-    }
+    let size = body_size(control).filter(|&size| size <= body.len())?;
+    Some(size + data_length(control, body))
 }
 
-/// What a caller lends, and what a request leaves of it.
-#[derive(Clone, PartialEq, Eq)]
-pub struct Lent {
-    pub state: Vec<u8>,
-    pub medium: Vec<u8>,
-}
-
-impl Lent {
-    /// One request at a level, which has to stay: the return code and the body of the reply.
-    fn request(
-        &mut self,
-        side: Side,
-        level: u8,
-        request: &Request,
-    ) -> Result<(u32, Vec<u8>), String> {
-        self.state[state::LEVEL] = level;
-        let mut reply = request.buffer.clone();
-        let header = request.header;
-        let number = side.request(header, &mut self.state, &mut self.medium, &mut reply);
-        if number != call::DONE {
-            return Err(format!("call's number {number}"));
-        }
-        if self.state[state::LEVEL] != level {
-            return Err("the level changes".to_string());
-        }
-        Ok((
-            return_code(number, header, &reply),
-            header.body(&reply).to_vec(),
-        ))
+/// One request at a level, which has to stay: the return code and the body of the reply.
+fn at_level(
+    side: Side,
+    level: u8,
+    lent: &mut Lent,
+    request: &Request,
+) -> Result<(u32, Vec<u8>), String> {
+    lent.state[state::LEVEL] = level;
+    let header = request.header;
+    let (number, reply) = lent.request(side, request);
+    if number != call::DONE {
+        return Err(format!("call's number {number}"));
     }
+    if lent.level() != level {
+        return Err("the level changes".to_string());
+    }
+    Ok((
+        return_code(number, header, &reply),
+        header.body(&reply).to_vec(),
+    ))
 }
 
 /// Checks the claim on one side, the Linux request in a state of this level. Gives the return code; what is lent is then as both leave it.
 pub fn check(side: Side, level: u8, lent: &mut Lent, twins: &Twins) -> Result<u32, String> {
     let mut other = lent.clone();
-    let (code, body) = lent.request(side, FULL, &twins.first)?;
-    let (linux_code, linux_body) = other.request(side, level, &twins.linux)?;
+    let (code, body) = at_level(side, FULL, lent, &twins.first)?;
+    let (linux_code, linux_body) = at_level(side, level, &mut other, &twins.linux)?;
     other.state[state::LEVEL] = FULL;
     let parts = [
         ("return codes", code == linux_code),
         ("bodies", body == linux_body),
         ("states", lent.state == other.state),
         ("media", lent.medium == other.medium),
+        ("stages", lent.stage == other.stage),
     ];
     match parts.iter().find(|(_, same)| !same) {
         None => Ok(code),
@@ -130,10 +117,7 @@ pub fn walk(
 ) -> Result<(), String> {
     let random = &mut Random::new(seed);
     let adapter = Adapter::sound(random);
-    let mut lent = Lent {
-        state: adapter.state(FULL),
-        medium: random.bytes(adapter.medium_length()),
-    };
+    let mut lent = Lent::of(random, &adapter, FULL);
     for n in 0..count {
         let twins = Twins::any(random, &adapter);
         let (level, control) = (random.pick(&LEVELS), twins.first.control());

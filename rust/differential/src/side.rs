@@ -17,7 +17,7 @@ pub enum Side {
     Model,
     /// The model over a state as bytes, which it reads and writes at each call, as the library's calls do.
     ModelCalls,
-    /// The model with state and medium length tested before the first request of a run, not at each.
+    /// The model with state and lengths tested before the first request of a run, not at each.
     ModelTestedOnce,
 }
 
@@ -41,17 +41,20 @@ impl Side {
         self.open(text, file, medium, &mut [0; state::SIZE])
     }
 
-    /// Handles one request by the call of its header: the call's number; state, medium and buffer as the call leaves them.
+    /// Handles one request by the call of its header: the call's number; state, medium, stage and buffer as the call leaves them.
     pub fn request(
         self,
         header: Header,
         state: &mut [u8],
         medium: &mut [u8],
+        stage: &mut [u8],
         buffer: &mut [u8],
     ) -> u32 {
         match self {
-            Side::Library | Side::LibraryCalls => request_library(header, state, medium, buffer),
-            _ => request_model(header, state, medium, buffer),
+            Side::Library | Side::LibraryCalls => {
+                request_library(header, state, medium, stage, buffer)
+            }
+            _ => request_model(header, state, medium, stage, buffer),
         }
     }
 
@@ -66,11 +69,13 @@ impl Side {
     pub fn run(self, case: &Case) -> Outcome {
         let (text, file) = (&case.text, &case.file);
         let mut medium = case.medium.clone();
+        let mut stage = case.stage.clone();
         let mut session = case.session.clone();
         let mut record = case.record.clone();
         let written = Written {
             framing: case.framing,
             medium: &mut medium,
+            stage: &mut stage,
             session: &mut session,
             record: &mut record,
         };
@@ -87,6 +92,7 @@ impl Side {
             opening: self.opening(text, file, &case.medium),
             handled,
             medium,
+            stage,
             session,
             record,
             state,
@@ -116,19 +122,31 @@ fn open_model(text: &[u8], file: &[u8], medium: &[u8], state: &mut [u8]) -> u32 
     number
 }
 
-fn request_library(header: Header, state: &mut [u8], medium: &mut [u8], buffer: &mut [u8]) -> u32 {
+fn request_library(
+    header: Header,
+    state: &mut [u8],
+    medium: &mut [u8],
+    stage: &mut [u8],
+    buffer: &mut [u8],
+) -> u32 {
     match header {
-        Header::First => library::request(state, medium, buffer),
-        Header::Linux { control } => library::request_linux(state, medium, control, buffer),
+        Header::First => library::request(state, medium, stage, buffer),
+        Header::Linux { control } => library::request_linux(state, medium, stage, control, buffer),
     }
 }
 
-fn request_model(header: Header, state: &mut [u8], medium: &mut [u8], buffer: &mut [u8]) -> u32 {
+fn request_model(
+    header: Header,
+    state: &mut [u8],
+    medium: &mut [u8],
+    stage: &mut [u8],
+    buffer: &mut [u8],
+) -> u32 {
     let Ok(state) = <&mut [u8; state::SIZE]>::try_from(state) else {
         return call::STATE;
     };
     let mut held = State::from_bytes(state);
-    let number = run::request(header, &mut held, medium, buffer);
+    let number = run::request(header, &mut held, medium, stage, buffer);
     *state = held.to_bytes();
     number
 }

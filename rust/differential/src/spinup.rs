@@ -7,7 +7,7 @@ use crate::case::{Case, Exchange, Outcome};
 use crate::names::{call, code, file, phy, phy_info, rate, set_phy_info, state, ENTITY};
 use crate::need;
 use crate::side::{return_code, Side};
-use crate::two_runs::{Level, Start};
+use crate::start::{Level, Start};
 use model::State;
 
 /// The holds of a run, as far as it has come.
@@ -108,15 +108,15 @@ pub fn check(case: &Case, outcome: &Outcome) -> Result<usize, String> {
 
 /// The claim by the calls, after each request and not at the end alone.
 pub fn check_each(side: Side, start: &Start, level: &Level) -> Result<(), String> {
-    let (mut state, mut medium) = (vec![0x5A; state::SIZE], start.medium.to_vec());
-    if side.open(&level.text, start.file, &medium, &mut state) != call::DONE {
+    let (opening, mut lent) = start.opened(side, level);
+    if opening != call::DONE {
         return Ok(());
     }
     let mut holds = Holds::of_file(start.file);
-    holds.agree(&state)?;
+    holds.agree(&lent.state)?;
     for (n, request) in start.requests.iter().enumerate() {
-        let (header, mut reply) = (request.header, request.buffer.clone());
-        let number = side.request(header, &mut state, &mut medium, &mut reply);
+        let header = request.header;
+        let (number, reply) = lent.request(side, request);
         let exchange = Exchange {
             header,
             request: &request.buffer,
@@ -126,7 +126,7 @@ pub fn check_each(side: Side, start: &Start, level: &Level) -> Result<(), String
         };
         holds.follow(&exchange);
         holds
-            .agree(&state)
+            .agree(&lent.state)
             .map_err(|what| format!("request {}: {what}", n + 1))?;
     }
     Ok(())
@@ -145,8 +145,8 @@ pub fn refused_by_hold(text: &[u8], file: &[u8], medium: &[u8]) -> bool {
 }
 
 /// Whether a state that is refused would be sound with every hold set to 0.
-pub fn is_unsound_by_hold(state: &[u8; state::SIZE], medium: &[u8]) -> bool {
-    let refused = |state: &State| model::tested(state, medium) == Err(call::STATE);
+pub fn is_unsound_by_hold(state: &[u8; state::SIZE]) -> bool {
+    let refused = |state: &State| model::tested(state, &[], &[]) == Err(call::STATE);
     let mut without = State::from_bytes(state);
     let unsound = refused(&without);
     for phy in &mut without.phys {

@@ -1,7 +1,7 @@
 //! The tally of a record by both implementations (W-206), and of a run against its requests and replies.
 
 use crate::case::{Case, Exchange, Outcome};
-use crate::names::{call, record, state, status, totals};
+use crate::names::{call, record, state, status, totals, STAGE};
 use crate::need;
 use crate::pair::equal_numbers;
 use crate::random::Random;
@@ -104,7 +104,10 @@ pub fn of_run(case: &Case, outcome: &Outcome) -> Result<Totals, String> {
 /// The totals by requests and replies, without the record.
 fn of_replies(case: &Case, outcome: &Outcome) -> Totals {
     let exchanges = case.exchanges(outcome);
-    let kinds: Vec<LineKind> = exchanges.iter().map(|one| kind(outcome, one)).collect();
+    let kinds: Vec<LineKind> = exchanges
+        .iter()
+        .map(|one| kind(case, outcome, one))
+        .collect();
     let of = |kind| kinds.iter().filter(|&&of| of == kind).count() as u64;
     Totals {
         requests: outcome.handled as u64,
@@ -115,12 +118,12 @@ fn of_replies(case: &Case, outcome: &Outcome) -> Totals {
     }
 }
 
-/// After a refused opening all are otherwise refused; else a buffer too short for its header is a 100, those that document 01 denies are
+/// After a refused opening all are otherwise refused, and with a stage of another length; else a buffer too short for its header is a 100, those that document 01 denies are
 /// denied, and of the rest those are granted whose reply says so.
-fn kind(outcome: &Outcome, exchange: &Exchange) -> LineKind {
+fn kind(case: &Case, outcome: &Outcome, exchange: &Exchange) -> LineKind {
     let level = outcome.state.as_ref().expect("the state is shown")[state::LEVEL];
     let (header, sent) = (exchange.header, exchange.request);
-    if outcome.opening != call::DONE {
+    if outcome.opening != call::DONE || case.stage.len() != STAGE {
         LineKind::OtherwiseRefused
     } else if sent.len() < header.size() {
         LineKind::Short

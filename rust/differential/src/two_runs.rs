@@ -1,48 +1,25 @@
-//! "Two runs": the higher run's list is the lower's without the requests denied there. The replies to the others, the media and
-//! the states but the level are then equal. And below Full a run of the first header changes nothing (`ReadOnly` of `claims`, with W-202).
+//! "Two runs": the higher run's list is the lower's without the requests denied there. The replies to the others, the media,
+//! the stages and the states but the level are then equal.
 
 use crate::case::{Case, Exchange, Outcome};
+use crate::lent::Lent;
 use crate::names::{call, state, status};
-use crate::need;
-use crate::random::Random;
 use crate::request::{Header, Request};
 use crate::run;
 use crate::side::{return_code, Side};
-use crate::text;
+use crate::start::{Level, Start};
 use crate::wire::put_word;
 
-/// A level, and a text that gives it.
-pub struct Level {
-    pub number: u8,
-    pub text: Vec<u8>,
-}
-
-impl Level {
-    pub fn of_number(random: &mut Random, number: u8) -> Self {
-        Level {
-            number,
-            text: text::of_level(random, number),
-        }
-    }
-}
-
-/// What both runs start with, and the lower run's list.
-pub struct Start<'a> {
-    pub seed: u64,
-    pub file: &'a [u8],
-    pub medium: &'a [u8],
-    pub requests: &'a [Request],
-}
-
 /// A run of one side, with its outcome.
-struct Run {
+pub struct Run {
     case: Case,
     outcome: Outcome,
 }
 
 impl Run {
-    fn of(side: Side, start: &Start, level: &Level, list: &[Request]) -> Result<Self, String> {
-        let case = Case::of_requests(start.seed, &level.text, start.file, start.medium, list);
+    pub fn of(side: Side, start: &Start, level: &Level, list: &[Request]) -> Result<Self, String> {
+        let mut case = Case::of_requests(start.seed, &level.text, start.file, start.medium, list);
+        case.stage = start.stage.to_vec();
         let outcome = side.run(&case);
         if outcome.handled != list.len() {
             return Err(format!("{} of {} requests", outcome.handled, list.len()));
@@ -50,12 +27,8 @@ impl Run {
         Ok(Run { case, outcome })
     }
 
-    fn exchanges(&self) -> Vec<Exchange<'_>> {
+    pub fn exchanges(&self) -> Vec<Exchange<'_>> {
         self.case.exchanges(&self.outcome)
-    }
-
-    fn accepted(&self) -> bool {
-        self.outcome.opening == call::DONE
     }
 }
 
@@ -65,23 +38,15 @@ pub fn check(side: Side, start: &Start, low: &Level, high: &Level) -> Result<usi
     let answers = lower.exchanges();
     let (denied, others): (Vec<&Exchange>, Vec<&Exchange>) = answers
         .iter()
-        .partition(|one| lower.accepted() && need::denied(low.number, one.header, one.request));
+        .partition(|one| start.denied(lower.outcome.opening, low, one.header, one.request));
     denied.iter().try_for_each(|one| only_return_code(one))?;
 
     same_by_part(side, start, high, &lower, &others)?;
     Ok(denied.len())
 }
 
-/// `ReadOnly` of `claims`: in a run below Full the Linux requests alone get the same replies and leave the same.
-pub fn check_read_only(side: Side, start: &Start, level: &Level) -> Result<(), String> {
-    let whole = Run::of(side, start, level, start.requests)?;
-    let answers = whole.exchanges();
-    let linux: Vec<&Exchange> = answers.iter().filter(|one| one.header.is_linux()).collect();
-    same_by_part(side, start, level, &whole, &linux)
-}
-
 /// A run at this level of a part of the requests of another: they get the same replies, and it leaves the same.
-fn same_by_part(
+pub fn same_by_part(
     side: Side,
     start: &Start,
     level: &Level,
@@ -105,13 +70,16 @@ fn equal_ends(one: &Outcome, other: &Outcome) -> Result<(), String> {
     if one.medium != other.medium {
         return Err("the media differ".to_string());
     }
+    if one.stage != other.stage {
+        return Err("the stages differ".to_string());
+    }
     if one.state.as_deref().map(but_level) != other.state.as_deref().map(but_level) {
         return Err("the states differ".to_string());
     }
     Ok(())
 }
 
-/// "Tables, counters and disks are every field of the state but the level".
+/// "Tables, counters and disks are every field of the state but the level"; the running revisions and what is staged are among them.
 fn but_level(bytes: &[u8]) -> &[u8] {
     &bytes[state::LEVEL + 1..]
 }
@@ -131,27 +99,29 @@ pub fn only_return_code(exchange: &Exchange) -> Result<(), String> {
 struct Caller {
     side: Side,
     opening: u32,
-    state: Vec<u8>,
-    medium: Vec<u8>,
+    lent: Lent,
 }
 
 impl Caller {
     fn open(side: Side, start: &Start, level: &Level) -> Self {
-        let mut state = vec![0x5A; state::SIZE];
-        let opening = side.open(&level.text, start.file, start.medium, &mut state);
+        let (opening, lent) = start.opened(side, level);
         Caller {
             side,
             opening,
-            state,
-            medium: start.medium.to_vec(),
+            lent,
         }
     }
 
     fn request(&mut self, request: &Request) -> (u32, Vec<u8>) {
-        let mut reply = request.buffer.clone();
-        let (state, medium) = (&mut self.state, &mut self.medium);
-        let number = self.side.request(request.header, state, medium, &mut reply);
-        (number, reply)
+        self.lent.request(self.side, request)
+    }
+
+    /// The same but the level.
+    fn leaves_as(&self, other: &Caller) -> bool {
+        let (one, other) = (&self.lent, &other.lent);
+        but_level(&one.state) == but_level(&other.state)
+            && one.medium == other.medium
+            && one.stage == other.stage
     }
 
     /// The level stays the run's own; after a refused opening it is 0.
@@ -161,7 +131,7 @@ impl Caller {
         } else {
             0
         };
-        self.state[state::LEVEL] == own
+        self.lent.level() == own
     }
 }
 
@@ -170,10 +140,9 @@ impl Caller {
 pub fn check_each(side: Side, start: &Start, low: &Level, high: &Level) -> Result<(), String> {
     let mut lower = Caller::open(side, start, low);
     let mut higher = Caller::open(side, start, high);
-    let accepted = lower.opening == call::DONE;
     for (n, request) in start.requests.iter().enumerate() {
         let reply = lower.request(request);
-        let denied = accepted && need::denied(low.number, request.header, &request.buffer);
+        let denied = start.denied(lower.opening, low, request.header, &request.buffer);
         let code = return_code(reply.0, request.header, &reply.1);
         if denied != (code == status::WRITE_ATTEMPTED) {
             return Err(format!("request {}: 4 is not where it is denied", n + 1));
@@ -181,9 +150,8 @@ pub fn check_each(side: Side, start: &Start, low: &Level, high: &Level) -> Resul
         if !denied && higher.request(request) != reply {
             return Err(format!("request {}: the replies differ", n + 1));
         }
-        let same = but_level(&lower.state) == but_level(&higher.state);
-        if !same || lower.medium != higher.medium {
-            return Err(format!("request {}: the states or the media differ", n + 1));
+        if !lower.leaves_as(&higher) {
+            return Err(format!("request {}: they do not leave the same", n + 1));
         }
         if !lower.keeps(low) || !higher.keeps(high) {
             return Err(format!("request {}: a level changes", n + 1));
@@ -195,14 +163,15 @@ pub fn check_each(side: Side, start: &Start, low: &Level, high: &Level) -> Resul
 /// The model's own `denied` is document 01's.
 pub fn check_denied(start: &Start, level: &Level) -> Result<(), String> {
     let (number, mut state) = model::open(&level.text, start.file, start.medium);
-    let mut medium = start.medium.to_vec();
+    let (mut medium, mut stage) = (start.medium.to_vec(), start.stage.to_vec());
     for (n, request) in start.requests.iter().enumerate() {
         let (header, buffer) = (request.header, &request.buffer);
-        let denied = number == call::DONE && need::denied(level.number, header, buffer);
-        if header == Header::First && model::denied(&state, &medium, buffer) != denied {
+        let denied = start.denied(number, level, header, buffer);
+        if header == Header::First && model::denied(&state, &medium, &stage, buffer) != denied {
             return Err(format!("request {}: the model's denied", n + 1));
         }
-        run::request(header, &mut state, &mut medium, &mut buffer.clone());
+        let buffer = &mut buffer.clone();
+        run::request(header, &mut state, &mut medium, &mut stage, buffer);
     }
     Ok(())
 }

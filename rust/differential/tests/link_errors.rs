@@ -12,8 +12,10 @@ use differential::pair::Pair;
 use differential::random::Random;
 use differential::request::{first, OfBody, Request, HEADERS};
 use differential::side::{return_code, CALLS, SIDES};
+use differential::stage;
+use differential::start::{Level, Start};
 use differential::text::{FULL, LEVELS, LIMITED, NONE, RESTRICTED};
-use differential::two_runs::{check, check_each, Level, Start};
+use differential::two_runs::{check, check_each};
 use differential::wire::put_word;
 
 /// All four counters.
@@ -206,6 +208,7 @@ fn two_runs(seed: u64, headers: &[OfBody]) -> [usize; 2] {
         seed,
         file: &file,
         medium: &medium,
+        stage: &stage::of_seed(seed),
         requests: &requests,
     };
     let levels = LEVELS.map(|number| Level::of_number(random, number));

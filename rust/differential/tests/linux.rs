@@ -2,11 +2,12 @@
 
 use differential::adapter::Adapter;
 use differential::names::{
-    ata, body_size, call, code, direction, linux_header as at, phy, set_phy_info, state, status,
-    stp,
+    ata, body_size, call, code, direction, firmware as download, linux_header as at, phy,
+    set_phy_info, state, status, stp, STAGE,
 };
 use differential::pair::Pair;
 use differential::random::Random;
+use differential::request::firmware::Download;
 use differential::request::linux::{fill, of_body, put_direction};
 use differential::request::passthrough::Passthrough;
 use differential::request::{fis, sound, Request};
@@ -19,6 +20,7 @@ use differential::wire::put_word;
 struct Sent {
     state: Vec<u8>,
     medium: Vec<u8>,
+    stage: Vec<u8>,
     request: Request,
 }
 
@@ -34,13 +36,14 @@ impl Sent {
         Sent {
             state: adapter.state(level),
             medium: vec![0x11; adapter.medium_length()],
+            stage: vec![0x22; STAGE],
             request,
         }
     }
 
     /// What both sides give. Of the header only the return code's bytes change, and the level stays.
     fn answer(&self) -> Answer {
-        let mut pair = Pair::of(&self.state, &self.medium);
+        let mut pair = Pair::lending(&self.state, &self.medium, &self.stage);
         let reply = pair
             .request(&self.request)
             .unwrap_or_else(|difference| panic!("{difference}"));
@@ -58,6 +61,7 @@ impl Sent {
         if code != status::SUCCESS {
             assert_eq!(reply.buffer[at::SIZE..], sent[at::SIZE..]);
             assert!(pair.state() == self.state && pair.medium() == self.medium);
+            assert!(pair.stage() == self.stage);
         }
         Answer::Code(code)
     }
@@ -73,7 +77,7 @@ fn link_errors(level: u8) -> Sent {
 type Fault = (fn(&mut Sent), Answer);
 
 /// One for each check, in their order; the last is that of the code's own.
-const FAULTS: [Fault; 7] = [
+const FAULTS: [Fault; 8] = [
     (
         |sent| sent.state[state::LEVEL] = 4,
         Answer::Call(call::STATE),
@@ -82,6 +86,7 @@ const FAULTS: [Fault; 7] = [
         |sent| sent.medium.push(0),
         Answer::Call(call::MEDIUM_LENGTH),
     ),
+    (|sent| sent.stage.push(0), Answer::Call(call::STAGE_LENGTH)),
     (
         |sent| sent.request.buffer.truncate(at::SIZE - 1),
         Answer::Call(call::BUFFER_LENGTH),
@@ -120,7 +125,7 @@ fn the_order_of_the_checks() {
                     expected = Some(*answer);
                 }
             }
-            assert_eq!(Some(sent.answer()), expected, "{chosen:07b}");
+            assert_eq!(Some(sent.answer()), expected, "{chosen:08b}");
         }
     }
 }
@@ -168,9 +173,10 @@ fn granting(random: &mut Random) -> Adapter {
     }
 }
 
-/// A request of a code that it grants; of code 25 a write of two sectors.
+/// A request of a code that it grants; of code 25 a write of two sectors, of code 4 a validation.
 fn granted(random: &mut Random, adapter: &Adapter, control: u32) -> Request {
     let body = match control {
+        code::FIRMWARE_DOWNLOAD => Download::validation(random).body(random),
         code::SET_PHY_INFO => vec![0; set_phy_info::SIZE],
         code::STP_PASSTHRU => {
             let fis = fis::command(random, ata::WRITE_SECTORS, 14, 2);
@@ -215,7 +221,7 @@ fn each_command_is_granted_at_each_level() {
     }
 }
 
-/// From the structure's end, and of code 25 its data's, to the buffer's, the header counted.
+/// From the structure's end, and of codes 4 and 25 their data's, to the buffer's, the header counted.
 #[test]
 fn which_lengths_pass() {
     let random = &mut Random::new(4);
@@ -242,36 +248,37 @@ fn which_lengths_pass() {
     }
 }
 
-/// uDataLength near the end of 32 bits: no sum leaves them.
+/// uDataLength and uBufferLength near the end of 32 bits: no sum leaves them.
 #[test]
 fn lengths_of_data_that_leave_32_bits() {
     let random = &mut Random::new(5);
     let adapter = granting(random);
-    let sound = Sent::of(
-        &adapter,
-        NONE,
-        granted(random, &adapter, code::STP_PASSTHRU),
-    );
-    let whole = sound.request.buffer.len() as u32;
-    let (header, parameters) = (at::SIZE as u32, stp::DATA as u32);
-    for data in [
-        0,
-        1,
-        parameters,
-        parameters + 1,
-        header + parameters,
-        0x8000_0000,
+    for (control, place, structure) in [
+        (code::STP_PASSTHRU, stp::DATA_LENGTH, stp::DATA),
+        (
+            code::FIRMWARE_DOWNLOAD,
+            download::BUFFER_LENGTH,
+            download::DATA,
+        ),
     ] {
-        for length in [header + parameters, whole - 1, whole, whole + 1, u32::MAX] {
-            let mut sent = sound.clone();
-            put_word(
-                sent.request.body_mut(),
-                stp::DATA_LENGTH,
-                data.wrapping_neg(),
-            );
-            put_word(&mut sent.request.buffer, at::LENGTH, length);
-            // uDataLength 0 has no room for the sectors
-            assert_eq!(sent.answer(), Answer::Code(status::INVALID_PARAMETER));
+        let sound = Sent::of(&adapter, NONE, granted(random, &adapter, control));
+        let whole = sound.request.buffer.len() as u32;
+        let (header, structure) = (at::SIZE as u32, structure as u32);
+        for data in [
+            0,
+            1,
+            structure,
+            structure + 1,
+            header + structure,
+            0x8000_0000,
+        ] {
+            for length in [header + structure, whole - 1, whole, whole + 1, u32::MAX] {
+                let mut sent = sound.clone();
+                put_word(sent.request.body_mut(), place, data.wrapping_neg());
+                put_word(&mut sent.request.buffer, at::LENGTH, length);
+                // uDataLength 0 has no room for the sectors, and uBufferLength 0 no image
+                assert_eq!(sent.answer(), Answer::Code(status::INVALID_PARAMETER));
+            }
         }
     }
 }
@@ -295,6 +302,7 @@ fn bytes_that_are_not_read() {
                 body,
                 pair.state().to_vec(),
                 pair.medium().to_vec(),
+                pair.stage().to_vec(),
             );
             assert!(
                 *expected.get_or_insert(left.clone()) == left,

@@ -5,13 +5,13 @@ use differential::adapter::Adapter;
 use differential::case::Case;
 use differential::names::{call, state};
 use differential::random::Random;
+use differential::read_only::Kept;
 use differential::request::{any_code, first, Request};
 use differential::session::Framing;
 use differential::side::{CALLS, SIDES};
-use differential::two_runs::{
-    check, check_denied, check_each, check_read_only, only_return_code, Level, Start,
-};
-use differential::{generate, last_writer, text};
+use differential::start::{Level, Start};
+use differential::two_runs::{check, check_denied, check_each, only_return_code};
+use differential::{generate, last_writer, read_only, stage, text};
 
 /// Every pair of levels, the lower at most the higher.
 fn pairs() -> Vec<(u8, u8)> {
@@ -40,6 +40,7 @@ fn two_runs(seed: u64, framing: Framing, low: u8, high: u8, count: usize) -> usi
         seed,
         file: &file,
         medium: &medium,
+        stage: &stage::any(random),
         requests: &generate::requests_of(random, &adapter, count, framing),
     };
     let low = Level::of_number(random, low);
@@ -101,6 +102,7 @@ fn denied_requests_change_only_their_return_code() {
         for side in SIDES {
             let outcome = side.run(&case);
             assert!(outcome.medium == case.medium, "seed {seed}, {side:?}");
+            assert!(outcome.stage == case.stage, "seed {seed}, {side:?}");
             let state = outcome.state.as_ref();
             assert!(
                 state.is_none_or(|state| *state == adapter.state(text::NONE)),
@@ -114,9 +116,18 @@ fn denied_requests_change_only_their_return_code() {
     }
 }
 
-/// Below Full the first header writes nothing: a run leaves what its Linux requests alone leave, on every side. At Full it is not so.
+/// Below Limited the first header writes nothing: a run leaves what its Linux requests alone leave, on every side; below Full nothing but by
+/// code 4. From these levels on it is not so.
 #[test]
-fn below_full_the_first_header_leaves_no_trace() {
+fn below_its_level_the_first_header_leaves_no_trace() {
+    for (kept, least) in [(Kept::Linux, 300), (Kept::LinuxAndFirmware, 200)] {
+        let traces = traces(kept);
+        assert!(traces > least, "{kept:?}: only {traces} runs left a trace");
+    }
+}
+
+/// How many runs left a trace.
+fn traces(kept: Kept) -> usize {
     let mut traces = 0;
     for seed in 0..120 {
         let random = &mut Random::new(seed);
@@ -127,12 +138,13 @@ fn below_full_the_first_header_leaves_no_trace() {
             seed,
             file: &file,
             medium: &medium,
+            stage: &stage::any(random),
             requests: &generate::requests_of(random, &adapter, 60, framing),
         };
         for level in text::LEVELS.map(|number| Level::of_number(random, number)) {
             for side in SIDES {
-                let left = check_read_only(side, &start, &level);
-                if level.number < text::FULL {
+                let left = read_only::check(side, &start, &level, kept);
+                if level.number < kept.level() {
                     assert_eq!(
                         left,
                         Ok(()),
@@ -144,7 +156,7 @@ fn below_full_the_first_header_leaves_no_trace() {
             }
         }
     }
-    assert!(traces > 200, "only {traces} runs at Full left a trace");
+    traces
 }
 
 fn the_last_writer_of_each_sector_and_rate(framing: Framing) {
@@ -180,7 +192,7 @@ fn the_last_writer_by_both_headers() {
 }
 
 #[test]
-fn after_a_refused_opening_the_medium_stays_and_the_state_is_zero() {
+fn after_a_refused_opening_medium_and_stage_stay_and_the_state_is_zero() {
     let mut refused = 0;
     for seed in 0..80 {
         let random = &mut Random::new(seed);
@@ -201,6 +213,7 @@ fn after_a_refused_opening_the_medium_stays_and_the_state_is_zero() {
                 let state = outcome.state.as_ref();
                 assert!(
                     outcome.medium == case.medium
+                        && outcome.stage == case.stage
                         && outcome.session == case.session
                         && state.is_none_or(|state| *state == [0; state::SIZE]),
                     "seed {seed}, {side:?}"

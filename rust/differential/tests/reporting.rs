@@ -1,14 +1,16 @@
-//! W-204's one statement over codes 1, 2, 3, 20, 22, 26, 27, 28 and 30, on both implementations: by the calls, and in whole runs.
+//! W-204's one statement over codes 1, 2, 3, 20, 22, 26, 27, 28 and 30, on both implementations: by the calls, and in whole runs. The stage of
+//! W-207 stays too.
 
 use differential::adapter::Adapter;
 use differential::case::Case;
+use differential::lent::Lent;
 use differential::names::{ata, call, code, set_phy_info, status};
 use differential::need;
 use differential::random::Random;
 use differential::reporting::{any, check, clear, resets, walk, REPORTING};
+use differential::request::firmware::Download;
 use differential::request::passthrough::Passthrough;
 use differential::request::{fis, Request, HEADERS};
-use differential::sameness::Lent;
 use differential::side::{CALLS, SIDES};
 use differential::text::{self, FULL, LEVELS, NONE};
 use std::collections::BTreeSet;
@@ -57,7 +59,7 @@ fn expected() -> BTreeSet<(u32, bool, u8)> {
     expected
 }
 
-/// Whole runs of these codes: the medium stays, and so does the state but for the counters that the granted resets clear.
+/// Whole runs of these codes: medium and stage stay, and so does the state but for the counters that the granted resets clear.
 #[test]
 fn runs_of_these_codes() {
     let mut cleared = 0;
@@ -73,6 +75,7 @@ fn runs_of_these_codes() {
             let outcome = side.run(&case);
             assert_eq!(outcome.handled, requests.len());
             assert!(outcome.medium == medium, "seed {seed}, {side:?}");
+            assert!(outcome.stage == case.stage, "seed {seed}, {side:?}");
             let mut state = adapter.state(level);
             for one in case
                 .exchanges(&outcome)
@@ -93,24 +96,23 @@ fn runs_of_these_codes() {
     assert!(cleared > 500, "only {cleared} resets");
 }
 
-/// Of codes 21 and 25 it is not true: what they write is seen.
+/// Of codes 4, 21 and 25 it is not true: what they write is seen.
 #[test]
 fn the_other_codes_do_write() {
-    let mut written = [0; 2];
+    let mut written = [0; 3];
     for seed in 0..200 {
         let random = &mut Random::new(seed);
         let adapter = Adapter::of_counts(random, 4, 0);
-        let lent = Lent {
-            state: adapter.state(FULL),
-            medium: random.bytes(adapter.medium_length()),
-        };
+        let lent = Lent::of(random, &adapter, FULL);
         let fis = fis::command(random, ata::WRITE_SECTORS, 3, 1);
         let passthrough = Passthrough::of_fis(random, &adapter, fis).body(random);
         let mut body = [0; set_phy_info::SIZE];
         (body[set_phy_info::PHY], body[set_phy_info::NEGOTIATED]) = (random.below(4) as u8, 1);
+        let validation = Download::validation(random).body(random);
         for (of_code, control, body) in [
             (0, code::SET_PHY_INFO, &body[..]),
             (1, code::STP_PASSTHRU, &passthrough),
+            (2, code::FIRMWARE_DOWNLOAD, &validation),
         ] {
             for request in HEADERS.map(|of_body| of_body(control, body)) {
                 let seen = CALLS.map(|side| check(side, &mut lent.clone(), &request).is_err());

@@ -3,11 +3,12 @@
 use differential::adapter::Adapter;
 use differential::case::{Case, Exchange, Outcome};
 use differential::coverage::known::Kind;
+use differential::lent::Lent;
 use differential::names::{code, state, status};
 use differential::random::Random;
 use differential::request::passthrough::Passthrough;
 use differential::request::{fis, Request};
-use differential::sameness::{check, walk, Lent, Twins};
+use differential::sameness::{check, walk, Twins};
 use differential::side::{CALLS, SIDES};
 use differential::text::{self, FULL, LEVELS};
 use std::collections::BTreeSet;
@@ -34,9 +35,14 @@ fn bodies_behind_both_headers() {
     }
 }
 
-/// What may be met past the header's checks: of the codes but 21, 22 and 25, 3 is a Length's alone.
+/// What may be met past the header's checks: of the codes but 4, 21, 22 and 25, 3 is a Length's alone.
 fn expected() -> BTreeSet<(u8, u32, u32)> {
-    let own = [code::SET_PHY_INFO, code::LINK_ERRORS, code::STP_PASSTHRU];
+    let own = [
+        code::FIRMWARE_DOWNLOAD,
+        code::SET_PHY_INFO,
+        code::LINK_ERRORS,
+        code::STP_PASSTHRU,
+    ];
     let mut expected = BTreeSet::new();
     for level in LEVELS {
         for (control, code) in Kind::Linux(level).replies() {
@@ -55,10 +61,7 @@ fn each_command_behind_both_headers() {
     let random = &mut Random::new(1);
     let adapter = Adapter::of_counts(random, 4, 0);
     for side in CALLS {
-        let mut lent = Lent {
-            state: adapter.state(FULL),
-            medium: random.bytes(adapter.medium_length()),
-        };
+        let mut lent = Lent::of(random, &adapter, FULL);
         for level in LEVELS {
             for command in 0..=255 {
                 let (lba, count) = fis::edge(random);
@@ -81,6 +84,7 @@ struct Left {
     codes: Vec<u32>,
     bodies: Vec<Vec<u8>>,
     medium: Vec<u8>,
+    stage: Vec<u8>,
     /// Of a side that shows it.
     state: Option<Vec<u8>>,
 }
@@ -92,6 +96,7 @@ fn left(case: &Case, outcome: Outcome) -> Left {
         codes: exchanges.iter().map(|one| one.code).collect(),
         bodies: exchanges.iter().map(body).collect(),
         medium: outcome.medium.clone(),
+        stage: outcome.stage.clone(),
         state: outcome
             .state
             .map(|state| state[state::LEVEL + 1..].to_vec()),

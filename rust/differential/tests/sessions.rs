@@ -8,6 +8,7 @@ use differential::names::{
     ata, call, device, header, link_errors, phy, record, row, status, stp, PROGRAM_LONGEST,
 };
 use differential::random::Random;
+use differential::request::firmware::{self, Download};
 use differential::request::passthrough::Passthrough;
 use differential::request::{first, fis, linux, sound, Header, Request, HEADERS};
 use differential::session::{end::cut, Framing};
@@ -61,7 +62,7 @@ fn every_command(seed: u64, level: u8) -> Case {
 
 /// Over 60,000 requests over thousands of adapters, texts and openings; each number and return code of the documents is met, with each
 /// code that can give it, with the Linux header at each level, of code 22 with each kind of reset byte at each level, of codes 2, 3 and 30
-/// at each level with both headers, of disks held at spin-up with both headers, and none besides.
+/// at each level with both headers, of disks held at spin-up with both headers, of firmware at each level with both headers, and none besides.
 #[test]
 fn random_runs_agree_and_meet_everything() {
     let mut coverage = Coverage::default();
@@ -153,20 +154,27 @@ fn every_value_of_each_header_byte_agrees() {
     let random = &mut Random::new(12);
     let adapter = Adapter::of_counts(random, 2, 2);
     for control in names::code::ALL {
-        for sound in SOUND {
-            let sound = sound(random, &adapter, control);
+        let body = small_body(random, &adapter, control);
+        for of_body in HEADERS {
+            let sound = of_body(control, &body);
             every_value_agrees(random, &adapter, &sound, 0..sound.header.size());
         }
     }
 }
 
-/// A sound body of a code; of code 25, a write of one sector.
+/// A sound body of a code; of code 25, a write of one sector, of code 4, a validation of one block.
 fn small_body(random: &mut Random, adapter: &Adapter, control: u32) -> Vec<u8> {
-    if control != names::code::STP_PASSTHRU {
-        return sound::body(random, adapter, control);
+    match control {
+        names::code::FIRMWARE_DOWNLOAD => {
+            let image = firmware::image(random, 1);
+            Download::validation_of(random, image).body(random)
+        }
+        names::code::STP_PASSTHRU => {
+            let fis = fis::command(random, ata::WRITE_SECTORS, 3, 1);
+            Passthrough::of_fis(random, adapter, fis).body(random)
+        }
+        _ => sound::body(random, adapter, control),
     }
-    let fis = fis::command(random, ata::WRITE_SECTORS, 3, 1);
-    Passthrough::of_fis(random, adapter, fis).body(random)
 }
 
 #[test]
@@ -381,6 +389,7 @@ fn nothing_at_all() {
         text: Vec::new(),
         file: Vec::new(),
         medium: Vec::new(),
+        stage: Vec::new(),
         framing: Framing::First,
         session: Vec::new(),
         record: Vec::new(),
@@ -420,6 +429,7 @@ fn after_a_refused_opening_every_request_gets_107() {
         refused += 1;
         assert_eq!(outcome.handled, 21);
         assert!(outcome.medium == case.medium && outcome.session == case.session);
+        assert!(outcome.stage == case.stage);
         let exchanges = case.exchanges(&outcome);
         assert!(exchanges
             .iter()

@@ -7,8 +7,8 @@ use differential::random::Random;
 use differential::session::Framing;
 use differential::side::{CALLS, SIDES};
 use differential::spinup::{check, check_each};
+use differential::start::{Level, Start};
 use differential::text::{FULL, LEVELS};
-use differential::two_runs::{Level, Start};
 
 /// In whole runs, of every side and at every level: a hold is the file's until a granted code 21 names its phy, and then 0 to the end; the
 /// rate 3 is never met without a hold.
@@ -30,6 +30,7 @@ fn holds_in_runs(framing: Framing) {
             seed,
             file: &file,
             medium: &medium,
+            stage: &case.stage,
             requests: &requests,
         };
         for side in CALLS {

@@ -1,17 +1,18 @@
-//! Requests to states that a caller made, which no run meets: every number, and every byte of state, medium and buffer.
+//! Requests to states that a caller made, which no run meets: every number, and every byte of state, medium, stage and buffer.
 
 use differential::adapter::damage::{self, Damage};
 use differential::adapter::form::Form;
 use differential::adapter::Adapter;
-use differential::names::{call, code, header, row, state, status, DISK, DRIVER_INFO};
+use differential::lent::Lent;
+use differential::names::{call, code, header, row, state, status, DISK, DRIVER_INFO, STAGE};
 use differential::pair::{Pair, Reply};
 use differential::random::Random;
 use differential::request::{self, linux, Request};
 use differential::side::{Side, CALLS};
 use differential::state::reading::{driver_info, phy_info};
-use differential::state::{alter, made};
+use differential::state::{alter, made, put_staged};
 use differential::wire::word;
-use differential::{generate, medium, text};
+use differential::{generate, medium, stage, text};
 
 /// What both sides give.
 fn agreed(what: &str, pair: &mut Pair, request: &Request) -> Reply {
@@ -19,13 +20,29 @@ fn agreed(what: &str, pair: &mut Pair, request: &Request) -> Reply {
         .unwrap_or_else(|difference| panic!("{what}: {difference}"))
 }
 
-/// On each side alone: the number, and no byte of state, medium or buffer is touched.
+/// On each side alone: the number, and no byte of state, medium, stage or buffer is touched.
 fn assert_refused(what: &str, number: u32, state: &[u8], medium: &[u8], request: &Request) {
+    refused_with_stage(what, number, state, medium, &stage::of_seed(0), request);
+}
+
+fn refused_with_stage(
+    what: &str,
+    number: u32,
+    state: &[u8],
+    medium: &[u8],
+    stage: &[u8],
+    request: &Request,
+) {
+    let before = Lent {
+        state: state.to_vec(),
+        medium: medium.to_vec(),
+        stage: stage.to_vec(),
+    };
     for side in CALLS {
-        let (mut s, mut m, mut b) = (state.to_vec(), medium.to_vec(), request.buffer.clone());
-        let given = side.request(request.header, &mut s, &mut m, &mut b);
+        let mut lent = before.clone();
+        let (given, reply) = lent.request(side, request);
         assert_eq!(given, number, "{what}, {side:?}");
-        let untouched = s == state && m == medium && b == request.buffer;
+        let untouched = lent == before && reply == request.buffer;
         assert!(untouched, "{what}, {side:?}: something is touched");
     }
 }
@@ -140,10 +157,12 @@ fn a_state_of_another_length_is_107() {
         state::CONTROLLER_CONFIG,
         state::CONTROLLER_STATUS,
         state::CONNECTORS,
+        state::STAGED,
+        state::STAGED_REVISIONS,
     ];
     let near = [state::SIZE - 1, state::SIZE + 1, state::SIZE + 2];
-    // the whole state before W-204, and before W-205
-    let others = [0, 1, 4785, 6149, 8192, 2 * state::SIZE];
+    // the whole state before W-204, before W-205 and before W-207
+    let others = [0, 1, 4785, 6149, 6181, 8192, 2 * state::SIZE];
     for length in [&ends[..], &near, &others].concat() {
         let mut state = sound.clone();
         state.resize(length, 0);
@@ -156,7 +175,7 @@ fn a_state_of_another_length_is_107() {
 
 /// Zeros behind a sound state, or before it, do not make one of another length sound.
 #[test]
-fn only_6181_bytes_are_a_state() {
+fn only_6190_bytes_are_a_state() {
     let adapter = Adapter::of_counts(&mut Random::new(5), 1, 0);
     let medium = vec![0; adapter.medium_length()];
     for length in (0..200).chain(4700..4900).chain(6050..6250) {
@@ -170,7 +189,7 @@ fn only_6181_bytes_are_a_state() {
     }
 }
 
-/// 106 of a request, which no run meets.
+/// 106 of a request, which no run meets of the medium.
 #[test]
 fn a_medium_of_another_length_is_106() {
     let random = &mut Random::new(6);
@@ -197,9 +216,31 @@ fn a_medium_of_another_length_is_106() {
     }
 }
 
-/// "Checks, in order: state; medium length; buffer of 28 bytes", of 20 with the Linux header.
+/// With an image staged and without.
 #[test]
-fn the_state_comes_before_the_medium_and_the_medium_before_the_buffer() {
+fn a_stage_of_another_length_is_106() {
+    let random = &mut Random::new(15);
+    for length in [0, 1, 511, 512, STAGE / 2, STAGE - 1, STAGE + 1, 2 * STAGE] {
+        let adapter = Adapter::sound(random);
+        let medium = random.bytes(adapter.medium_length());
+        let stage = random.bytes(length);
+        for (level, staged) in (0..8).map(|n| (text::LEVELS[n % 4], n < 4)) {
+            let mut state = adapter.state(level);
+            if staged {
+                put_staged(random, &mut state);
+            }
+            for request in some_requests(random, &adapter) {
+                let number = call::STAGE_LENGTH;
+                refused_with_stage("stage", number, &state, &medium, &stage, &request);
+            }
+        }
+    }
+}
+
+/// "Checks, in order: state; medium length; buffer of 28 bytes", of 20 with the Linux header; the stage's length "straight after the medium
+/// length" (W-207).
+#[test]
+fn the_state_then_the_medium_then_the_stage_then_the_buffer() {
     let random = &mut Random::new(7);
     for damage in damage::all(Form::State) {
         let (adapter, state) = broken(random, damage, text::FULL);
@@ -209,10 +250,19 @@ fn the_state_comes_before_the_medium_and_the_medium_before_the_buffer() {
         let first = [0, 1, 20, 24, 27].map(|length| Request::first(random.bytes(length)));
         let linux = [0, 1, 8, 12, 19].map(|length| Request::linux(1, random.bytes(length)));
         for short in first.into_iter().chain(linux) {
-            assert_refused("all three", call::STATE, &state, &wrong, &short);
+            assert_refused("all but the stage", call::STATE, &state, &wrong, &short);
             assert_refused("state and buffer", call::STATE, &state, &right, &short);
             assert_refused("medium", call::MEDIUM_LENGTH, &sound, &wrong, &short);
             assert_refused("buffer", call::BUFFER_LENGTH, &sound, &right, &short);
+            let stage = stage::of_wrong_length(random);
+            for (what, number, state, medium) in [
+                ("all four", call::STATE, &state, &wrong),
+                ("all but the medium", call::STATE, &state, &right),
+                ("medium and stage", call::MEDIUM_LENGTH, &sound, &wrong),
+                ("stage", call::STAGE_LENGTH, &sound, &right),
+            ] {
+                refused_with_stage(what, number, state, medium, &stage, &short);
+            }
         }
     }
 }
@@ -275,9 +325,14 @@ fn states_of_any_kind_are_answered_alike() {
         "{:?}",
         made.by_hold
     );
+    assert!(
+        made.by_stage.iter().all(|&count| count > 50),
+        "{:?}",
+        made.by_stage
+    );
 }
 
-/// All 6,181 places, some other values each.
+/// All 6,190 places, some other values each; those of a staged image twice.
 fn altered(seed: u64, p: usize, a: usize) {
     let done = alter::run(seed, p, a, alter::Values::Some);
     assert_eq!(done.differences.len(), 0, "{:?}", done.differences.first());
@@ -295,7 +350,7 @@ fn every_byte_of_a_state_of_32_phys_and_64_rows_altered() {
     altered(11, 32, 64);
 }
 
-/// Requests to several adapters in turn, and an opening now and then: each goes by its own state and medium alone.
+/// Requests to several adapters in turn, and an opening now and then: each goes by its own state, medium and stage alone.
 #[test]
 fn nothing_is_kept_between_the_calls() {
     let random = &mut Random::new(14);
@@ -303,7 +358,8 @@ fn nothing_is_kept_between_the_calls() {
         .map(|n| {
             let adapter = Adapter::sound(random);
             let medium = random.bytes(adapter.medium_length());
-            let pair = Pair::of(&adapter.state(text::LEVELS[n % 4]), &medium);
+            let state = adapter.state(text::LEVELS[n % 4]);
+            let pair = Pair::lending(&state, &medium, &random.bytes(STAGE));
             (adapter, pair)
         })
         .collect();
@@ -337,6 +393,7 @@ fn nothing_outside_the_arguments_is_touched() {
         let length = random.pick(&[state::SIZE, state::SIZE, state::SIZE - 1, 0]);
         let mut state = guarded(&vec![0xC3; length]);
         let mut medium = guarded(&opening.medium);
+        let mut stage = guarded(&stage::any(random));
         let range = inside(&state);
         Side::Library.open(
             &opening.text,
@@ -346,15 +403,17 @@ fn nothing_outside_the_arguments_is_touched() {
         );
         for request in generate::requests(random, &adapter, 30) {
             let mut buffer = guarded(&request.buffer);
-            let ranges = (inside(&state), inside(&medium), inside(&buffer));
+            let [in_state, in_medium, in_stage, in_buffer] =
+                [&state, &medium, &stage, &buffer].map(inside);
             Side::Library.request(
                 request.header,
-                &mut state[ranges.0],
-                &mut medium[ranges.1],
-                &mut buffer[ranges.2],
+                &mut state[in_state],
+                &mut medium[in_medium],
+                &mut stage[in_stage],
+                &mut buffer[in_buffer],
             );
             assert!(intact(&buffer));
         }
-        assert!(intact(&state) && intact(&medium));
+        assert!(intact(&state) && intact(&medium) && intact(&stage));
     }
 }

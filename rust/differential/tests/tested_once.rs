@@ -2,11 +2,12 @@
 
 use differential::adapter::Adapter;
 use differential::generate;
-use differential::names::call;
+use differential::names::{call, STAGE};
 use differential::random::Random;
 use differential::run;
 use differential::session::Framing;
 use differential::side::Side;
+use differential::stage;
 
 /// Some 5,000 requests over 400 openings, refused ones too: every number and every byte.
 #[test]
@@ -38,15 +39,18 @@ fn states_agree_and_keep_the_rules() {
         let (number, mut state) = model::open(&opening.text, &opening.file, &opening.medium);
         assert_eq!(number, call::DONE);
         let (mut other, mut medium) = (state.clone(), opening.medium);
-        let mut other_medium = medium.clone();
+        let mut stage = stage::of_seed(seed);
+        let (mut other_medium, mut other_stage) = (medium.clone(), stage.clone());
         for request in generate::requests(random, &adapter, 100) {
             let header = request.header;
             let (mut reply, mut same) = (request.buffer.clone(), request.buffer);
-            let number = run::request(header, &mut state, &mut medium, &mut reply);
-            let answer = run::answer(header, &mut other, &mut other_medium, &mut same);
+            let number = run::request(header, &mut state, &mut medium, &mut stage, &mut reply);
+            let (medium_left, stage_left) = (&mut other_medium, &mut other_stage);
+            let answer = run::answer(header, &mut other, medium_left, stage_left, &mut same);
             assert_eq!(answer, number);
-            assert!(reply == same && state == other && medium == other_medium);
-            assert_eq!(model::tested(&other, &other_medium), Ok(()));
+            assert!(reply == same && state == other);
+            assert!(medium == other_medium && stage == other_stage);
+            assert_eq!(model::tested(&other, &other_medium, &other_stage), Ok(()));
         }
     }
 }
@@ -61,16 +65,20 @@ fn a_failed_test_is_the_number_of_each_request() {
     let mut broken = sound.clone();
     broken.level = 4;
     let short = vec![0; medium.len() - 1];
-    for (state, medium, expected) in [
-        (&sound, &short, call::MEDIUM_LENGTH),
-        (&broken, &medium, call::STATE),
-        (&broken, &short, call::STATE),
+    let (stage, cut) = (vec![0; STAGE], vec![0; STAGE - 1]);
+    for (state, medium, stage, expected) in [
+        (&sound, &medium, &cut, call::STAGE_LENGTH),
+        (&sound, &short, &stage, call::MEDIUM_LENGTH),
+        (&sound, &short, &cut, call::MEDIUM_LENGTH),
+        (&broken, &medium, &stage, call::STATE),
+        (&broken, &short, &cut, call::STATE),
     ] {
-        assert_eq!(model::tested(state, medium), Err(expected));
-        let (mut state, mut medium) = (state.clone(), medium.clone());
+        assert_eq!(model::tested(state, medium, stage), Err(expected));
+        let (mut state, mut medium, mut stage) = (state.clone(), medium.clone(), stage.clone());
         for mut request in generate::requests(random, &adapter, 200) {
             let buffer = &mut request.buffer;
-            let number = run::request(request.header, &mut state, &mut medium, buffer);
+            let header = request.header;
+            let number = run::request(header, &mut state, &mut medium, &mut stage, buffer);
             assert_eq!(number, expected);
         }
     }

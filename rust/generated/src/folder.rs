@@ -58,6 +58,12 @@ impl Folder {
         }
     }
 
+    /// The first requests of the session.
+    pub fn requests(&self, count: usize) -> Vec<&[u8]> {
+        let split = Framing::First.split(&self.session, count).into_iter();
+        split.map(|(_, request)| request).collect()
+    }
+
     /// What the model prints. "A missing file counts as empty."
     pub fn expected(&self) -> String {
         let [text, file] = [&self.level, &self.adapter].map(|file| file.as_deref().unwrap_or(&[]));

@@ -1,6 +1,7 @@
 //! Runs the simulator in generated folders: `generated SIMULATOR [FOLDERS [SEED]]`. What it prints has to be what the model prints, byte
 //! for byte. One line for each folder where it is not, and for each thing that no seed had; the last line says how many there were.
 
+mod firmware;
 mod folder;
 mod met;
 
@@ -40,7 +41,11 @@ fn compare(simulator: &Path, seeds: std::ops::Range<u64>) -> ExitCode {
     };
     let mut met = Met::default();
     for seed in seeds {
-        met.see(&comparison.compare(&format!("seed {seed}"), &Folder::of_seed(seed)));
+        let folder = Folder::of_seed(seed);
+        met.see(
+            &folder,
+            &comparison.compare(&format!("seed {seed}"), &folder),
+        );
     }
     comparison.compare("the long session", &Folder::long());
     let missing = met.missing();

@@ -1,5 +1,7 @@
 //! What the folders had, by what was printed: a comparison says nothing of what it did not meet.
 
+use crate::firmware::Firmware;
+use crate::folder::Folder;
 use labkit::report::{Totals, Transcript, COUNTED};
 
 /// The numbers with which an opening of the program refuses.
@@ -17,14 +19,18 @@ pub struct Met {
     cut_first: usize,
     long: usize,
     totals: [u64; COUNTED.len()],
+    firmware: Firmware,
 }
 
 impl Met {
     /// Notes what was printed in a folder.
-    pub fn see(&mut self, printed: &str) {
+    pub fn see(&mut self, folder: &Folder, printed: &str) {
         match Transcript::parse(printed).expect("the kit reads what the model prints") {
             Transcript::Refused(number) => self.openings.push(number),
-            Transcript::Run { answers, cut } => self.see_run(Totals::of(&answers), cut),
+            Transcript::Run { answers, cut } => {
+                self.firmware.see(&folder.requests(answers.len()), &answers);
+                self.see_run(Totals::of(&answers), cut);
+            }
         }
     }
 
@@ -57,6 +63,7 @@ impl Met {
             .map(|number| format!("open {number}"))
             .chain(sessions.map(|(_, what)| what.to_string()))
             .chain(kinds.map(|(name, _)| format!("any {name}")))
+            .chain(self.firmware.missing())
             .collect()
     }
 }
@@ -64,7 +71,6 @@ impl Met {
 #[cfg(test)]
 mod tests {
     use super::*;
-    use crate::folder::Folder;
     use crate::{FOLDERS, SEED};
 
     #[test]
@@ -86,6 +92,14 @@ mod tests {
             "any denied",
             "any otherwise refused",
             "any 100s",
+            "Validation with code 0",
+            "Validation with code 4",
+            "WrongImage with code 1",
+            "WrongLength with code 3",
+            "Bytes with code 3",
+            "Commit with code 0",
+            "Commit with code 1",
+            "Commit with code 4",
         ];
         assert_eq!(missing, expected);
     }
@@ -95,7 +109,8 @@ mod tests {
     fn the_usual_seeds_meet_all() {
         let mut met = Met::default();
         for seed in SEED..SEED + FOLDERS {
-            met.see(&Folder::of_seed(seed).expected());
+            let folder = Folder::of_seed(seed);
+            met.see(&folder, &folder.expected());
         }
         assert_eq!(met.missing(), [""; 0]);
     }

@@ -64,6 +64,7 @@ mod tests {
             opening: 0,
             state: Vec::new(),
             medium: Vec::new(),
+            stage: Vec::new(),
             header,
             call: 0,
             reply: reply.to_vec(),

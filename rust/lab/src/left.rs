@@ -1,4 +1,4 @@
-//! What runs left: every field of the states but the level, and every sector of the disks, where they differ.
+//! What runs left: every field of the states but the level, every sector of the disks, and every block of the stages, where they differ.
 
 use crate::state::*;
 use labkit::adapter::{
@@ -14,9 +14,16 @@ pub enum Group {
     Counters,
     Rates,
     Sectors,
+    Stage,
 }
 
-pub const GROUPS: [Group; 4] = [Group::Tables, Group::Counters, Group::Rates, Group::Sectors];
+pub const GROUPS: [Group; 5] = [
+    Group::Tables,
+    Group::Counters,
+    Group::Rates,
+    Group::Sectors,
+    Group::Stage,
+];
 
 impl Group {
     pub fn name(self) -> &'static str {
@@ -25,6 +32,7 @@ impl Group {
             Group::Counters => "counters",
             Group::Rates => "programmed rates",
             Group::Sectors => "sectors",
+            Group::Stage => "stage",
         }
     }
 
@@ -59,8 +67,8 @@ pub struct Left {
     pub difference: Difference,
 }
 
-/// Everything in which states (but for their levels) and media differ.
-pub fn left(states: &[&[u8]], media: &[&[u8]]) -> Vec<Left> {
+/// Everything in which states (but for their levels), media and stages differ.
+pub fn left(states: &[&[u8]], media: &[&[u8]], stages: &[&[u8]]) -> Vec<Left> {
     let mut found = Vec::new();
     let table = |difference| Left {
         group: Group::Tables,
@@ -86,6 +94,7 @@ pub fn left(states: &[&[u8]], media: &[&[u8]]) -> Vec<Left> {
         CONTROLLER_SIZE,
     );
     tables("controller status ", &STATUS_FIELDS, STATUS, STATUS_SIZE);
+    tables("firmware ", &STAGED_FIELDS, STAGED, STAGED_SIZE);
     for n in 0..PHYS {
         let phy = format!("phy {n} ");
         tables(&phy, &PHY, phy_at(n), PHY_SIZE);
@@ -99,7 +108,22 @@ pub fn left(states: &[&[u8]], media: &[&[u8]]) -> Vec<Left> {
         difference,
     };
     found.extend(sectors(media).into_iter().map(sector));
+    let block = |difference| Left {
+        group: Group::Stage,
+        difference,
+    };
+    found.extend(blocks(stages).into_iter().map(block));
     found
+}
+
+/// The blocks in which stages differ.
+fn blocks(stages: &[&[u8]]) -> Vec<Difference> {
+    let length = stages.iter().map(|stage| stage.len()).max().unwrap_or(0);
+    let differ = |n: usize| {
+        let blocks = parts(stages, n * BLOCK, BLOCK);
+        bytes_differ(&format!("stage block {n}"), &blocks)
+    };
+    (0..length.div_ceil(BLOCK)).filter_map(differ).collect()
 }
 
 /// The fields of a table in which structures differ.
@@ -144,14 +168,14 @@ mod tests {
         for at in 0..STATE_SIZE {
             let mut other = state.clone();
             other[at] = 0x2F;
-            let found = left(&[&state, &other], &[]);
+            let found = left(&[&state, &other], &[], &[]);
             assert_eq!(found.is_empty(), at == LEVEL, "byte {at}");
         }
     }
 
     #[test]
     fn no_name_twice() {
-        let found = left(&[&[0x11; STATE_SIZE], &[0x2E; STATE_SIZE]], &[]);
+        let found = left(&[&[0x11; STATE_SIZE], &[0x2E; STATE_SIZE]], &[], &[]);
         let names: BTreeSet<&str> = found.iter().map(|l| l.difference.what.as_str()).collect();
         assert_eq!(names.len(), found.len());
     }
@@ -165,7 +189,7 @@ mod tests {
             other[phy_at(1) + 31],
             other[phy_at(1) + 29],
         ) = (7, 0x90, 1);
-        let found = left(&[&state, &other], &[]);
+        let found = left(&[&state, &other], &[], &[]);
         assert_eq!(
             groups(&found),
             [Group::Tables, Group::Rates, Group::Counters]
@@ -193,7 +217,7 @@ mod tests {
             (held[phy_at(n) + 29], held[phy_at(n) + 104]) = (3, 1);
             let mut released = held.clone();
             (released[phy_at(n) + 29], released[phy_at(n) + 104]) = (9, 0);
-            let found = left(&[&held, &released], &[]);
+            let found = left(&[&held, &released], &[], &[]);
             assert_eq!(groups(&found), [Group::Tables; 2]);
             let shown = |i: usize| {
                 let Difference { what, values } = &found[i].difference;
@@ -218,7 +242,7 @@ mod tests {
             other[STATUS],
             other[connector_at(31) + 2],
         ) = (5, 1, 1);
-        let found = left(&[&state, &other], &[]);
+        let found = left(&[&state, &other], &[], &[]);
         assert_eq!(groups(&found), [Group::Tables; 3]);
         let shown: Vec<String> = found
             .iter()
@@ -238,6 +262,50 @@ mod tests {
                 "phy 31 pinout: 0 00010000h (sff-8484-lane-1)"
             ]
         );
+    }
+
+    /// What is staged, and the revisions that run.
+    #[test]
+    fn firmware() {
+        let state = vec![0; STATE_SIZE];
+        let mut other = state.clone();
+        (
+            other[STAGED],
+            other[STAGED_REVISIONS + 1],
+            other[STAGED_REVISIONS + 6],
+            other[CONTROLLER + RUNNING],
+        ) = (1, 1, 9, 2);
+        let found = left(&[&state, &other], &[], &[]);
+        assert_eq!(groups(&found), [Group::Tables; 4]);
+        let shown = |left: &Left| {
+            let Difference { what, values } = &left.difference;
+            format!("{what}: {}", values.join(" | "))
+        };
+        assert_eq!(
+            found.iter().map(shown).collect::<Vec<_>>(),
+            [
+                "controller major: 0 | 2",
+                "firmware staged: 0 | 1",
+                "firmware staged-major: 0 | 256",
+                "firmware staged-release: 0 | 9",
+            ]
+        );
+    }
+
+    /// Whatever byte of a stage differs, its block is shown, under any number of runs.
+    #[test]
+    fn every_byte_of_the_stage() {
+        let stage = vec![0; library::STAGE_SIZE];
+        for at in 0..stage.len() {
+            let mut other = stage.clone();
+            other[at] = 1;
+            let found = blocks(&[&stage, &stage, &stage, &other]);
+            let place = format!("stage block {}, 1 byte", at / BLOCK);
+            assert_eq!((found.len(), &found[0].what), (1, &place));
+        }
+        let found = left(&[], &[], &[&stage, &[0x5A; library::STAGE_SIZE]]);
+        assert_eq!(groups(&found), [Group::Stage; 32]);
+        assert_eq!(found[31].difference.values, ["00*512", "5A*512"]);
     }
 
     #[test]

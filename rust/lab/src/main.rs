@@ -9,6 +9,7 @@ mod asked;
 mod beside;
 mod exercise;
 mod files;
+mod firmware;
 mod front;
 mod left;
 mod level;

@@ -3,6 +3,7 @@
 use crate::asked::{twin, Asked, Twin};
 use crate::beside::Beside;
 use crate::exercise::Exercise;
+use crate::firmware::Firmware;
 use crate::front::Front;
 use crate::left::{self, Group, Left};
 use crate::level;
@@ -38,6 +39,14 @@ pub struct Marking<'a> {
     pub explained: Option<bool>,
     /// Why there is no mark.
     pub no_mark: Option<String>,
+}
+
+/// How much runs left differently.
+pub struct Counts {
+    pub values: usize,
+    pub sectors: usize,
+    /// Of the stage.
+    pub blocks: usize,
 }
 
 impl<'a> Marking<'a> {
@@ -115,15 +124,27 @@ impl<'a> Marking<'a> {
     }
 
     fn left_behind(&self) -> Vec<Left> {
-        let states: Vec<&[u8]> = self.runs.iter().map(|run| run.state.as_slice()).collect();
-        let media: Vec<&[u8]> = self.runs.iter().map(|run| run.medium.as_slice()).collect();
-        left::left(&states, &media)
+        let each = |part: fn(&Run) -> &[u8]| self.runs.iter().map(part).collect::<Vec<_>>();
+        let (states, media) = (each(|run| &run.state), each(|run| &run.medium));
+        left::left(&states, &media, &each(|run| &run.stage))
     }
 
     /// The tally of each run; nothing where the session was not run.
     pub fn tallies(&self) -> Vec<Totals> {
         let tallied = self.runs.iter().filter(|_| self.was_run);
         tallied.map(Run::tally).collect()
+    }
+
+    /// The firmware of each run at its end; nothing where the session was not run.
+    pub fn firmware(&self) -> Vec<Firmware> {
+        let ended = self.runs.iter().filter(|_| self.was_run);
+        ended.map(Firmware::of).collect()
+    }
+
+    /// How many blocks of its stage each run wrote; nothing where the session was not run.
+    pub fn written(&self) -> Vec<usize> {
+        let ended = self.runs.iter().filter(|_| self.was_run);
+        ended.map(Run::written).collect()
     }
 
     pub fn differing(&self) -> usize {
@@ -154,14 +175,15 @@ impl<'a> Marking<'a> {
         self.rows.iter().filter(differs).count()
     }
 
-    /// How many values, and how many sectors, differ at the end.
-    pub fn left_counts(&self) -> (usize, usize) {
-        let sectors = self
-            .left
-            .iter()
-            .filter(|left| left.group == Group::Sectors)
-            .count();
-        (self.left.len() - sectors, sectors)
+    /// How many values, sectors and blocks of the stage differ at the end.
+    pub fn left_counts(&self) -> Counts {
+        let of = |group| self.left.iter().filter(|left| left.group == group).count();
+        let (sectors, blocks) = (of(Group::Sectors), of(Group::Stage));
+        Counts {
+            values: self.left.len() - sectors - blocks,
+            sectors,
+            blocks,
+        }
     }
 
     /// 0 no difference, 1 differences or Linux requests that need more than the lowest level, 2 no mark.

@@ -15,6 +15,8 @@ pub struct Run {
     pub opening: u32,
     pub state: Vec<u8>,
     pub medium: Vec<u8>,
+    /// Where the library stages firmware, zero at the start of every run.
+    pub stage: Vec<u8>,
     /// The header of the last request, and its reply: the call's number and the whole buffer.
     pub header: Header,
     pub call: u32,
@@ -31,6 +33,7 @@ impl Run {
             opening: library::open(text, adapter, medium, &mut opened),
             state: opened,
             medium: medium.to_vec(),
+            stage: vec![0; library::STAGE_SIZE],
             header: Header::Srb,
             call: 0,
             reply: Vec::new(),
@@ -48,10 +51,13 @@ impl Run {
         self.header = request.header;
         self.reply.clear();
         self.reply.extend_from_slice(request.buffer);
-        let (state, medium, reply) = (&mut self.state, &mut self.medium, &mut self.reply);
+        let (state, medium, stage) = (&mut self.state, &mut self.medium, &mut self.stage);
+        let reply = &mut self.reply;
         self.call = match request.header {
-            Header::Srb => library::request(state, medium, reply),
-            Header::Linux { control } => library::request_linux(state, medium, control, reply),
+            Header::Srb => library::request(state, medium, stage, reply),
+            Header::Linux { control } => {
+                library::request_linux(state, medium, stage, control, reply)
+            }
         };
         let code = self.answer().code.unwrap_or(NO_CODE);
         let line = [self.call, code].map(u32::to_le_bytes);
@@ -67,10 +73,17 @@ impl Run {
         Totals(library::Totals::of_record(&self.record).in_order())
     }
 
-    /// Takes the state and the medium of another run.
+    /// How many blocks of the stage are not as at the start. A block that an image puts there is not zero: its check sees to that.
+    pub fn written(&self) -> usize {
+        let blocks = self.stage.chunks(state::BLOCK);
+        blocks.filter(|block| **block != [0; state::BLOCK]).count()
+    }
+
+    /// Takes the state, the medium and the stage of another run.
     pub fn become_like(&mut self, other: &Run) {
         self.state.clone_from(&other.state);
         self.medium.clone_from(&other.medium);
+        self.stage.clone_from(&other.stage);
     }
 
     /// Whether the last replies of two runs are the same: the call's number and the whole buffer.
@@ -78,9 +91,10 @@ impl Run {
         self.call == other.call && self.reply == other.reply
     }
 
-    /// Whether two runs left the same: every byte of the state but the level, and every byte of the medium.
+    /// Whether two runs left the same: every byte of the state but the level, of the medium and of the stage.
     pub fn left_as(&self, other: &Run) -> bool {
         self.state[state::LEVEL + 1..] == other.state[state::LEVEL + 1..]
             && self.medium == other.medium
+            && self.stage == other.stage
     }
 }

@@ -28,10 +28,11 @@ fn described(folder: &Path) -> Result<Found, String> {
     let path = folder.join(TEXT);
     let text = words(&path)?;
     let form = Form::of(&text).map_err(|fault| at(&path, fault))?;
-    let bytes = form.parse(&text).map_err(|fault| at(&path, fault))?;
+    let parse = |form: Form| form.parse_in(folder, &text);
+    let bytes = parse(form).map_err(|fault| at(&path, fault))?;
     let mut warnings = Vec::new();
     for (other, name) in binaries(folder) {
-        let made = other.parse(&text).ok();
+        let made = parse(other).ok();
         warnings.extend(beside(&path, &folder.join(name), made.as_deref())?);
     }
     let from = TEXT.to_string();

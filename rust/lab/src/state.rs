@@ -1,5 +1,7 @@
 //! Where things stand in the bytes of a state, as `include/ascheknopf.h` has them.
 
+use labkit::field::{byte, number, Field};
+
 pub const LEVEL: usize = 0;
 pub const PHY_COUNT: usize = 1;
 pub const ROW_COUNT: usize = 2;
@@ -9,12 +11,29 @@ pub const PHYS: usize = 32;
 pub const PHY_SIZE: usize = 105;
 pub const ROWS: usize = 64;
 pub const ROW_SIZE: usize = 20;
-/// Behind the rows the controller's configuration, its status, and a connector for each phy.
-pub use library::{CONNECTOR, CONNECTOR_SIZE, CONTROLLER, CONTROLLER_SIZE, STATUS, STATUS_SIZE};
+/// Behind the rows the controller's configuration, its status, a connector for each phy, whether a firmware image is staged, and its
+/// revisions.
+pub use library::{
+    CONNECTOR, CONNECTOR_SIZE, CONTROLLER, CONTROLLER_SIZE, STAGED, STAGED_REVISIONS, STATUS,
+    STATUS_SIZE,
+};
+/// Where the revisions that run stand in the configuration; and the bytes of revisions.
+pub use library::{CONTROLLER_FIRMWARE as RUNNING, STAGED_REVISIONS_SIZE as REVISIONS_SIZE};
 
-/// The bytes of a disk, and of a sector.
+/// What is staged, by name.
+pub const STAGED_FIELDS: [Field; 5] = [
+    byte("staged", 0),
+    number("staged-major", 1, 2),
+    number("staged-minor", 3, 2),
+    number("staged-build", 5, 2),
+    number("staged-release", 7, 2),
+];
+pub const STAGED_SIZE: usize = 1 + REVISIONS_SIZE;
+
+/// The bytes of a disk, and of a sector; and of a block of the stage.
 pub const DISK: usize = 8192;
 pub const SECTOR: usize = 512;
+pub const BLOCK: usize = 512;
 
 pub const fn phy_at(n: usize) -> usize {
     DRIVER + DRIVER_SIZE + PHY_SIZE * n
@@ -44,6 +63,9 @@ mod tests {
         assert_eq!(row_at(ROWS), CONTROLLER);
         assert_eq!(CONTROLLER + CONTROLLER_SIZE, STATUS);
         assert_eq!(STATUS + STATUS_SIZE, connector_at(0));
-        assert_eq!(connector_at(PHYS), library::STATE_SIZE);
+        assert_eq!(connector_at(PHYS), STAGED);
+        assert_eq!(STAGED + 1, STAGED_REVISIONS);
+        assert_eq!(STAGED + STAGED_SIZE, library::STATE_SIZE);
+        assert_eq!(RUNNING + REVISIONS_SIZE, library::CONTROLLER_BIOS);
     }
 }

@@ -1,6 +1,7 @@
 //! Marks computed a second time, by the model of document 01, on generated exercises: damaged adapters, media of other lengths,
 //! cut sessions and every pair of levels among them, with the first header alone and with both. And every form of report on each.
 
+mod firmware;
 mod linux;
 mod spin_up;
 mod tally;
@@ -18,6 +19,8 @@ use model::State;
 
 const CASES: u64 = 150;
 const REQUESTS: usize = 40;
+/// A stage as every run begins with it.
+const STAGE: [u8; model::layout::STAGE] = [0; model::layout::STAGE];
 
 /// A generated exercise at two levels, or at all four.
 fn exercise(seed: u64, levels: &[usize]) -> Exercise {
@@ -59,24 +62,25 @@ struct Modelled {
     denied: usize,
     linux: usize,
     above: usize,
-    left: (Vec<u8>, Vec<u8>),
+    left: (Vec<u8>, Vec<u8>, Vec<u8>),
 }
 
 fn modelled(exercise: &Exercise, text: &[u8]) -> Modelled {
     let mut medium = exercise.medium();
     let (opening, mut state): (u32, State) = model::open(text, &exercise.adapter.bytes, &medium);
+    let mut stage = STAGE.to_vec();
     let (mut replies, mut denied, mut linux, mut above) = (Vec::new(), 0, 0, 0);
     for request in exercise.form.split(&exercise.session.bytes).requests {
         let mut buffer = request.buffer.to_vec();
         let call = match request.header {
             Header::Srb => {
-                denied += usize::from(model::denied(&state, &medium, &buffer));
-                model::request(&mut state, &mut medium, &mut buffer)
+                denied += usize::from(model::denied(&state, &medium, &stage, &buffer));
+                model::request(&mut state, &mut medium, &mut stage, &mut buffer)
             }
             Header::Linux { control } => {
                 linux += usize::from(linux::passes(control, &buffer));
                 above += usize::from(linux::is_above(&state, &medium, control, &buffer));
-                model::request_linux(&mut state, &mut medium, control, &mut buffer)
+                model::request_linux(&mut state, &mut medium, &mut stage, control, &mut buffer)
             }
         };
         replies.push((call, buffer));
@@ -87,7 +91,7 @@ fn modelled(exercise: &Exercise, text: &[u8]) -> Modelled {
         denied,
         linux,
         above,
-        left: (state.to_bytes()[1..].to_vec(), medium),
+        left: (state.to_bytes()[1..].to_vec(), medium, stage),
     }
 }
 
@@ -168,7 +172,7 @@ fn sessions_that_ask_nothing() {
             let (opening, state) = model::open(b"CSMI=None;", &exercise.adapter.bytes, &medium);
             let whole = std::mem::take(&mut exercise.session.bytes);
             let is_past = |request: &Request| match request.header {
-                Header::Srb => model::denied(&state, &medium, request.buffer),
+                Header::Srb => model::denied(&state, &medium, &STAGE, request.buffer),
                 Header::Linux { control } => linux::passes(control, request.buffer),
             };
             let requests = exercise.form.split(&whole).requests;

@@ -7,6 +7,7 @@ use labkit::{adapter, names, value};
 use std::env;
 use std::fs::{self, File};
 use std::io::{ErrorKind, Write};
+use std::path::Path;
 use std::process::ExitCode;
 
 const USAGE: &str = "\
@@ -113,10 +114,11 @@ fn upgrade(from: &str, to: &str) -> Result<(), String> {
     })
 }
 
-/// Makes a session from its description.
+/// Makes a session from its description, whose images stand in its folder.
 fn make(from: &str, to: &str, form: Form) -> Result<(), String> {
+    let folder = Path::new(from).parent().unwrap_or(Path::new(""));
     let bytes = form
-        .parse(&text(from)?)
+        .parse_in(folder, &text(from)?)
         .map_err(|fault| format!("{from}: {fault}"))?;
     write(to, &bytes)
 }

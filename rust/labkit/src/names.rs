@@ -62,7 +62,7 @@ const CALL_NUMBERS: [(u32, &str); 8] = [
     (103, "block check"),
     (104, "count or field"),
     (105, "shared row"),
-    (106, "medium length"),
+    (106, "medium or stage length"),
     (107, "state breaks the rules"),
 ];
 
@@ -109,6 +109,26 @@ pub const CONTROLLER_FLAGS: Names = &[
     (0x0004_0000, "fwd-sreset"),
     (0x0008_0000, "fwd-hreset"),
     (0x0010_0000, "fwd-rrom"),
+];
+
+/// uDownloadFlags.
+pub const DOWNLOADS: Names = &[(1, "validate"), (2, "soft-reset"), (4, "hard-reset")];
+
+/// usStatus of a firmware download.
+pub const DOWNLOAD_STATUSES: Names = &[
+    (0, "success"),
+    (1, "failed"),
+    (2, "using-rrom"),
+    (3, "reject"),
+    (4, "downrev"),
+];
+
+/// usSeverity of a firmware download.
+pub const SEVERITIES: Names = &[
+    (0, "information"),
+    (1, "warning"),
+    (2, "error"),
+    (3, "fatal"),
 ];
 
 /// uStatus of a controller.
@@ -236,14 +256,20 @@ mod tests {
         let rising = |table: &[(u32, &str)]| table.windows(2).all(|w| w[0].0 < w[1].0);
         assert!(rising(&CONTROL_CODES) && rising(&RETURN_CODES) && rising(&CALL_NUMBERS));
         assert!(rising(&LINK_RATES));
-        for names in [BUSES, STATUSES, OFFLINE_REASONS] {
+        for names in [
+            BUSES,
+            STATUSES,
+            OFFLINE_REASONS,
+            DOWNLOAD_STATUSES,
+            SEVERITIES,
+        ] {
             assert!(rising(names));
         }
     }
 
     #[test]
     fn names_of_bits() {
-        for names in [CONTROLLER_FLAGS, PINOUTS, LOCATIONS] {
+        for names in [CONTROLLER_FLAGS, PINOUTS, LOCATIONS, DOWNLOADS] {
             assert!(names.windows(2).all(|w| w[0].0 < w[1].0));
             assert!(names.iter().all(|row| row.0.count_ones() == 1));
         }

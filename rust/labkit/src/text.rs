@@ -45,6 +45,13 @@ impl Line {
         }
     }
 
+    /// Takes a word without a key, if it is there.
+    pub fn take_plain(&mut self, value: &str) -> bool {
+        let is_it = |w: &Word| w.key.is_none() && !w.quoted && w.value == value;
+        let at = self.words.iter().position(is_it);
+        at.map(|at| self.words.remove(at)).is_some()
+    }
+
     /// Takes the next word without a key.
     pub fn next_plain(&mut self) -> Option<Word> {
         let at = self.words.iter().position(|w| w.key.is_none())?;

@@ -1,7 +1,10 @@
 //! The six functions of the proved static library, over slices. All `unsafe` code of this workspace is here.
 
 /// The bytes of a state; `include/ascheknopf.h` says what each is.
-pub const STATE_SIZE: usize = 6181;
+pub const STATE_SIZE: usize = 6190;
+
+/// The bytes of a stage, which a firmware image is copied to.
+pub const STAGE_SIZE: usize = 16384;
 
 /// A line of the record that `run` and `run_both` write: two numbers of 32 bits.
 pub mod record {
@@ -53,16 +56,18 @@ pub fn open(text: &[u8], file: &[u8], medium: &[u8], state: &mut [u8]) -> u32 {
     }
 }
 
-/// Handles one request: the call's number. With 0 the buffer is the reply, and state and medium are those of the next request;
+/// Handles one request: the call's number. With 0 the buffer is the reply, and state, medium and stage are those of the next request;
 /// with any other nothing is touched.
-pub fn request(state: &mut [u8], medium: &mut [u8], buffer: &mut [u8]) -> u32 {
-    // As above; all three are written.
+pub fn request(state: &mut [u8], medium: &mut [u8], stage: &mut [u8], buffer: &mut [u8]) -> u32 {
+    // As above; all four are written.
     unsafe {
         interface::ascheknopf_request(
             state.as_mut_ptr(),
             state.len(),
             medium.as_mut_ptr(),
             medium.len(),
+            stage.as_mut_ptr(),
+            stage.len(),
             buffer.as_mut_ptr(),
             buffer.len(),
         )
@@ -70,14 +75,22 @@ pub fn request(state: &mut [u8], medium: &mut [u8], buffer: &mut [u8]) -> u32 {
 }
 
 /// Handles one request with the Linux header, whose control code stands beside the buffer: the call's number. The rest is as of `request`.
-pub fn request_linux(state: &mut [u8], medium: &mut [u8], control: u32, buffer: &mut [u8]) -> u32 {
-    // As above; all three slices are written.
+pub fn request_linux(
+    state: &mut [u8],
+    medium: &mut [u8],
+    stage: &mut [u8],
+    control: u32,
+    buffer: &mut [u8],
+) -> u32 {
+    // As above; all four slices are written.
     unsafe {
         interface::ascheknopf_request_linux(
             state.as_mut_ptr(),
             state.len(),
             medium.as_mut_ptr(),
             medium.len(),
+            stage.as_mut_ptr(),
+            stage.len(),
             control,
             buffer.as_mut_ptr(),
             buffer.len(),
@@ -91,6 +104,7 @@ pub fn run(
     text: &[u8],
     file: &[u8],
     medium: &mut [u8],
+    stage: &mut [u8],
     session: &mut [u8],
     record: &mut [u8],
 ) -> usize {
@@ -99,6 +113,7 @@ pub fn run(
         text,
         file,
         medium,
+        stage,
         session,
         record,
     )
@@ -110,6 +125,7 @@ pub fn run_both(
     text: &[u8],
     file: &[u8],
     medium: &mut [u8],
+    stage: &mut [u8],
     session: &mut [u8],
     record: &mut [u8],
 ) -> usize {
@@ -118,6 +134,7 @@ pub fn run_both(
         text,
         file,
         medium,
+        stage,
         session,
         record,
     )
@@ -129,10 +146,11 @@ fn run_by(
     text: &[u8],
     file: &[u8],
     medium: &mut [u8],
+    stage: &mut [u8],
     session: &mut [u8],
     record: &mut [u8],
 ) -> usize {
-    // As above; medium, session and record are written.
+    // As above; medium, stage, session and record are written.
     unsafe {
         run(
             text.as_ptr(),
@@ -141,6 +159,8 @@ fn run_by(
             file.len(),
             medium.as_mut_ptr(),
             medium.len(),
+            stage.as_mut_ptr(),
+            stage.len(),
             session.as_mut_ptr(),
             session.len(),
             record.as_mut_ptr(),

@@ -1,4 +1,4 @@
-//! What codes 2, 3 and 30 show: where a state has it, and the places in it, which are those in the body of a reply too. Each constant has
+//! What codes 2, 3 and 30 show, and what code 4 staged: where a state has it, and the places in it, which are those in the body of a reply too. Each constant has
 //! its name of `include/ascheknopf.h`, without `ASCHEKNOPF_`.
 
 /// The controller's configuration, which code 2 shows. It is packed. Revisions are four numbers of 16 bits: major, minor, build, release.
@@ -37,3 +37,18 @@ pub const CONNECTOR_SIZE: usize = 36;
 pub const CONNECTOR_PINOUT: usize = 0;
 pub const CONNECTOR_NAME: usize = 4;
 pub const CONNECTOR_LOCATION: usize = 20;
+
+/// Whether a firmware image is staged, a byte 1 or 0, and the revisions of that image, four numbers of 16 bits.
+pub const STAGED: usize = 6181;
+pub const STAGED_REVISIONS: usize = 6182;
+pub const STAGED_REVISIONS_SIZE: usize = 8;
+
+/// The body of a code 4: the length of the image and the flags, 4 bytes each; status and severity, 2 bytes each; the image behind the
+/// structure, in blocks of 512 bytes as an adapter file has them, 1 to 32, with its revisions in its first 8 bytes.
+pub const DOWNLOAD_BUFFER_LENGTH: usize = 0;
+pub const DOWNLOAD_FLAGS: usize = 4;
+pub const DOWNLOAD_STATUS: usize = 40;
+pub const DOWNLOAD_SEVERITY: usize = 42;
+pub const DOWNLOAD_DATA: usize = 44;
+/// The flag that an image is validated and staged; without it the staged one is made current.
+pub const DOWNLOAD_VALIDATE: u32 = 1;

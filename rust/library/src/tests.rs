@@ -1,5 +1,6 @@
 //! Small inputs whose answers document 01 gives at a glance. Whole adapters are compared in `rust/differential`.
 
+mod firmware;
 mod front_page;
 mod linux;
 mod spinup;
@@ -15,6 +16,11 @@ const HEADER: &str = include_str!("../../../include/ascheknopf.h");
 const OTHER: u8 = 0x5A;
 /// The rates of the phy: minimum and maximum, programmed and hardware.
 const RATES: [u8; 2] = [0x88, 0x99];
+
+/// A stage that no request may alter.
+fn stage() -> Vec<u8> {
+    vec![OTHER; STAGE_SIZE]
+}
 
 /// The number of an opening without file and medium, and the state that it leaves, which was full of other bytes.
 fn opened(text: &[u8]) -> (u32, [u8; STATE_SIZE]) {
@@ -152,52 +158,60 @@ fn a_state_of_another_length_is_107_and_stays() {
         2 * STATE_SIZE,
     ] {
         let mut lent = vec![OTHER; length];
-        let (mut medium, mut buffer) = ([0; DISK], [OTHER; 40]);
+        let (mut medium, mut stage, mut buffer) = ([0; DISK], stage(), [OTHER; 40]);
         assert_eq!(open(b"", &file(), &medium, &mut lent), 107);
         assert_eq!(open(b"CSMI=full;", &[], &[], &mut lent), 107);
-        assert_eq!(request(&mut lent, &mut medium, &mut buffer), 107);
-        assert_eq!(request(&mut lent, &mut [], &mut []), 107);
+        let number = request(&mut lent, &mut medium, &mut stage, &mut buffer);
+        assert_eq!(number, 107);
+        assert_eq!(request(&mut lent, &mut [], &mut [], &mut []), 107);
         assert_eq!(lent, vec![OTHER; length]);
-        assert!(medium == [0; DISK] && buffer == [OTHER; 40]);
+        assert!(medium == [0; DISK] && stage == self::stage() && buffer == [OTHER; 40]);
     }
 }
 
 #[test]
 fn the_numbers_of_a_request_in_their_order() {
-    let (mut lent, mut medium) = (state(4), [0; DISK]);
-    assert_eq!(request(&mut lent, &mut [], &mut []), 107);
+    let (mut lent, mut medium, mut stage) = (state(4), [0; DISK], stage());
+    assert_eq!(request(&mut lent, &mut [], &mut [], &mut []), 107);
     lent = state(3);
-    assert_eq!(request(&mut lent, &mut medium[1..], &mut []), 106);
     assert_eq!(
-        request(&mut lent, &mut medium, &mut [OTHER; header::SIZE - 1]),
-        100
+        request(&mut lent, &mut medium[1..], &mut stage, &mut []),
+        106
     );
+    assert_eq!(
+        request(&mut lent, &mut medium, &mut stage[1..], &mut []),
+        106
+    );
+    let mut short = [OTHER; header::SIZE - 1];
+    assert_eq!(request(&mut lent, &mut medium, &mut stage, &mut short), 100);
     let mut buffer = [0; header::SIZE];
-    assert_eq!(request(&mut lent, &mut medium, &mut buffer), 0);
+    assert_eq!(request(&mut lent, &mut medium, &mut stage, &mut buffer), 0);
     // HeaderLength is 0, which is return code 3
     assert_eq!((buffer[header::RETURN_CODE], lent), (3, state(3)));
 }
 
 #[test]
 fn a_request_changes_the_state_in_place() {
-    let (mut lent, mut medium) = (state(3), [0; DISK]);
+    let (mut lent, mut medium, mut stage) = (state(3), [0; DISK], stage());
     let mut buffer = first(control::SET_PHY_INFO, b"CSMISAS\0", &DISABLE);
     let mut reply = buffer.clone();
     put(&mut reply, header::RETURN_CODE, 0);
-    assert_eq!(request(&mut lent, &mut medium, &mut buffer), 0);
+    assert_eq!(request(&mut lent, &mut medium, &mut stage, &mut buffer), 0);
     assert_eq!((buffer, lent), (reply, disabled(3)));
+    assert_eq!(stage, self::stage());
 }
 
 #[test]
 fn a_request_after_a_refused_opening_gets_107() {
     let mut session = [5, 0, 0, 0, 1, 2, 3, 4, 5];
     let mut record = [0x5A; 10];
-    assert_eq!(run(&[], &[], &mut [], &mut session, &mut record), 1);
+    let handled = run(&[], &[], &mut [], &mut [], &mut session, &mut record);
+    assert_eq!(handled, 1);
     assert_eq!(session, [5, 0, 0, 0, 1, 2, 3, 4, 5]);
     assert_eq!(record, [107, 0, 0, 0, 0xFF, 0xFF, 0xFF, 0xFF, 0x5A, 0x5A]);
 }
 
 #[test]
 fn an_empty_session_has_no_requests() {
-    assert_eq!(run(&[], &[], &mut [], &mut [], &mut []), 0);
+    assert_eq!(run(&[], &[], &mut [], &mut [], &mut [], &mut []), 0);
 }

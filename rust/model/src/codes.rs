@@ -5,6 +5,7 @@ pub mod control {
     pub const DRIVER_INFO: u32 = 1;
     pub const CNTLR_CONFIG: u32 = 2;
     pub const CNTLR_STATUS: u32 = 3;
+    pub const FIRMWARE_DOWNLOAD: u32 = 4;
     pub const PHY_INFO: u32 = 20;
     pub const SET_PHY_INFO: u32 = 21;
     pub const LINK_ERRORS: u32 = 22;
@@ -25,6 +26,7 @@ pub mod call {
     pub const COUNT_OR_FIELD: u32 = 104;
     pub const SHARED_ROW: u32 = 105;
     pub const MEDIUM_LENGTH: u32 = 106;
+    pub const STAGE_LENGTH: u32 = MEDIUM_LENGTH;
     pub const STATE: u32 = 107;
 }
 
@@ -32,6 +34,7 @@ pub mod call {
 /// document 01 prints it.
 pub mod status {
     pub const SUCCESS: u32 = 0;
+    pub const FAILED: u32 = 1;
     pub const BAD_CNTL_CODE: u32 = 2;
     pub const INVALID_PARAMETER: u32 = 3;
     pub const WRITE_ATTEMPTED: u32 = 4;
@@ -53,6 +56,13 @@ pub mod status {
 pub mod direction {
     pub const DATA_READ: u16 = 0;
     pub const DATA_WRITE: u16 = 1;
+}
+
+/// The flag of code 4 that is read, and the status and severity that it writes.
+pub mod firmware {
+    pub const FWD_VALIDATE: u32 = 0x0000_0001;
+    pub const FWD_SUCCESS: u16 = 0;
+    pub const FWD_INFORMATION: u16 = 0;
 }
 
 /// The reset byte of code 22.

@@ -96,13 +96,24 @@ pub fn rows_are_distinct(rows: &[Row]) -> bool {
 }
 
 /// Not 107: "the state breaks the p, a, field or row rules, has a level over 3, or isn't zero
-/// past p and a".
+/// past p and a"; and by W-207 also what is staged.
 pub fn state_is_sound(state: &State) -> bool {
     counts_are_sound(state.p, state.a)
         && state.level <= Level::Full as u8
         && fields_are_sound(state)
         && rows_are_distinct(state.live_rows())
         && is_zero_past_counts(state)
+        && staged_is_sound(state)
+}
+
+/// "the state holds that, with its revisions (0 when nothing is staged, or it is 107)" (W-207). The
+/// revisions of a staged image may be 0 too.
+fn staged_is_sound(state: &State) -> bool {
+    match state.staged {
+        0 => state.staged_revisions == [0; 4],
+        1 => true,
+        _ => false,
+    }
 }
 
 fn is_zero_past_counts(state: &State) -> bool {

@@ -35,7 +35,7 @@ fn checked(text: &[u8], file: &[u8], medium: &[u8]) -> Result<State, u32> {
     if file.len() != file_length(p, a) {
         return Err(call::FILE_LENGTH);
     }
-    if !blocks.iter().zip(0..).all(|(block, k)| is_intact(block, k)) {
+    if !are_intact(blocks) {
         return Err(call::BLOCK_CHECK);
     }
     let parts = Parts::of(first, &blocks[1..]);
@@ -66,6 +66,11 @@ pub fn block_check(block: &[u8; BLOCK], number: u32) -> u32 {
 
 fn is_intact(block: &[u8; BLOCK], number: u32) -> bool {
     u32_at(block, CHECK) == block_check(block, number)
+}
+
+/// Whether each of these blocks, "numbered from 0", has its check.
+pub fn are_intact(blocks: &[[u8; BLOCK]]) -> bool {
+    blocks.iter().zip(0..).all(|(block, k)| is_intact(block, k))
 }
 
 /// The row blocks, "a/25 rounded up".
@@ -103,7 +108,8 @@ impl Parts<'_> {
         }
     }
 
-    /// "The state is the level and what the file holds, zero past p and a."
+    /// "The state is the level and what the file holds, zero past p and a." An opening leaves
+    /// nothing staged (W-207).
     fn held(&self, level: Level) -> State {
         let mut state = State::ZERO;
         state.level = level as u8;

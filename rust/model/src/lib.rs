@@ -2,11 +2,12 @@
 //! to be compared with the proved one.
 //!
 //! Two calls: [`open`] an adapter, and handle one [`request`], or one with the Linux header,
-//! [`request_linux`]; these also in their two parts, [`tested`] and then [`answer`] or
-//! [`answer_linux`]. The modules follow the document's parts, each resting on the ones
-//! before it: level, rates, state, link, fields, disk, file, request, tally, program. `codes` and
-//! `layout` hold the numbers and the offsets; `state_bytes` gives the state as bytes. [`Totals`]
-//! counts what the requests of a run came to, and [`program`] is all that the program prints.
+//! [`request_linux`], on the medium and the stage that the call before it left; these also in their
+//! two parts, [`tested`] and then [`answer`] or [`answer_linux`]. The modules follow the document's
+//! parts, each resting on the ones before it: level, rates, state, link, fields, disk, file,
+//! request, tally, program. `codes` and `layout` hold the numbers and the offsets; `state_bytes`
+//! gives the state as bytes. [`Totals`] counts what the requests of a run came to, and [`program`]
+//! is all that the program prints.
 
 #![forbid(unsafe_code)]
 

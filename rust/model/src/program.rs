@@ -7,6 +7,7 @@ use crate::file::open;
 use crate::layout::file::PHY_COUNT;
 use crate::layout::header::RETURN_CODE;
 use crate::layout::record::NO_CODE;
+use crate::layout::STAGE;
 use crate::request::request;
 use crate::state::State;
 use crate::tally::{Line, Totals};
@@ -82,7 +83,9 @@ fn first_request(input: &[u8]) -> Option<(&[u8], &[u8])> {
 
 /// What is printed after an accepted opening.
 fn run(mut state: State, mut medium: Vec<u8>, session: &Session) -> String {
-    let handled = |sent: &&[u8]| handled(&mut state, &mut medium, sent);
+    // W-207: it starts at zero as the medium does
+    let mut stage = [0; STAGE];
+    let handled = |sent: &&[u8]| handled(&mut state, &mut medium, &mut stage, sent);
     let lines: Vec<Line> = session.requests.iter().map(handled).collect();
     let mut printed = "request call code\n".to_string();
     for (n, line) in (1..).zip(&lines) {
@@ -98,9 +101,9 @@ fn run(mut state: State, mut medium: Vec<u8>, session: &Session) -> String {
 }
 
 /// Handles a request "in a buffer of its own".
-fn handled(state: &mut State, medium: &mut [u8], sent: &[u8]) -> Line {
+fn handled(state: &mut State, medium: &mut [u8], stage: &mut [u8], sent: &[u8]) -> Line {
     let mut buffer = sent.to_vec();
-    let number = request(state, medium, &mut buffer);
+    let number = request(state, medium, stage, &mut buffer);
     let code = match number {
         call::DONE => u32_at(&buffer, RETURN_CODE),
         _ => NO_CODE,

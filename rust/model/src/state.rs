@@ -24,6 +24,10 @@ pub struct State {
     pub controller_status: [u8; CONTROLLER_STATUS],
     /// One for each phy.
     pub connectors: [Connector; MAX_PHYS],
+    /// An image is staged (W-207), 0 or 1.
+    pub staged: u8,
+    /// Its revisions; "0 when nothing is staged".
+    pub staged_revisions: [u16; 4],
 }
 
 #[derive(Clone, PartialEq, Eq, Debug)]
@@ -67,6 +71,8 @@ impl State {
         controller_config: [0; CONTROLLER_CONFIG],
         controller_status: [0; CONTROLLER_STATUS],
         connectors: [Connector::ZERO; MAX_PHYS],
+        staged: 0,
+        staged_revisions: [0; 4],
     };
 
     /// The phys below p; of a state with p over 32, all.

@@ -1,10 +1,10 @@
 //! A state as the bytes that a caller lends to the two calls. Every byte is named, so every byte
 //! string of this length stands for a state, and each state for one byte string.
 
-use crate::bytes::{array_at, u32_at};
+use crate::bytes::{array_at, u16_at, u32_at};
 use crate::layout::state::{
     CONNECTORS, CONTROLLER_CONFIG, CONTROLLER_STATUS, DRIVER_INFO, LEVEL, PHYS, PHY_COUNT, ROWS,
-    ROW_COUNT, SIZE,
+    ROW_COUNT, SIZE, STAGED, STAGED_REVISIONS,
 };
 use crate::layout::{phy, row};
 use crate::state::{Connector, Phy, Row, State};
@@ -26,10 +26,12 @@ impl State {
         }
         state.controller_config = array_at(bytes, CONTROLLER_CONFIG);
         state.controller_status = array_at(bytes, CONTROLLER_STATUS);
-        let connectors = bytes[CONNECTORS..].as_chunks().0;
+        let connectors = bytes[CONNECTORS..STAGED].as_chunks().0;
         for (connector, bytes) in state.connectors.iter_mut().zip(connectors) {
             *connector = Connector(*bytes);
         }
+        state.staged = bytes[STAGED];
+        state.staged_revisions = [0, 2, 4, 6].map(|at| u16_at(bytes, STAGED_REVISIONS + at));
         state
     }
 
@@ -49,9 +51,14 @@ impl State {
         }
         bytes[CONTROLLER_CONFIG..CONTROLLER_STATUS].copy_from_slice(&self.controller_config);
         bytes[CONTROLLER_STATUS..CONNECTORS].copy_from_slice(&self.controller_status);
-        let connectors = bytes[CONNECTORS..].as_chunks_mut().0;
+        let connectors = bytes[CONNECTORS..STAGED].as_chunks_mut().0;
         for (bytes, connector) in connectors.iter_mut().zip(&self.connectors) {
             *bytes = connector.0;
+        }
+        bytes[STAGED] = self.staged;
+        let revisions = bytes[STAGED_REVISIONS..].as_chunks_mut().0;
+        for (bytes, revision) in revisions.iter_mut().zip(self.staged_revisions) {
+            *bytes = revision.to_le_bytes();
         }
         bytes
     }

@@ -104,7 +104,7 @@ try "without a warning" unmarked warning "$dir"
 dir=$(exercise_of both_renamed) && cp samples/writes/session "$dir/session.both"
 try "a session under the name session.both" no_mark "no mark: $reads_as_program 12 requests; its name then is session" "$dir"
 cp samples/refusals/session "$dir/session.both"
-try "a session that is cut under the name session.both" no_mark "$reads_as_program 16 requests, up to a cut; its name then is session" "$dir"
+try "a session that is cut under the name session.both" no_mark "$reads_as_program 17 requests, up to a cut; its name then is session" "$dir"
 dir=$(misnamed named_empty session.both "raw\nraw\nget-phy-info\nset-phy-info phy=0 maximum=8\n")
 try "a session that begins with empty requests under the name session.both" no_mark "$reads_as_program 4 requests; its name then is session" "$dir"
 mv "$dir/session.both" "$dir/session"

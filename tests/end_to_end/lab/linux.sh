@@ -106,7 +106,7 @@ linux_page() {
         has 1 '<p class="note">Linux requests are never denied; 2 need more than the low level</p>' &&
         has 2 '<tr class="above"><td class="number">[89]</td>.*<td class="word">runs as Full; denied low under the first header</td></tr>' &&
         has 2 '<tr class="differs"><td class="number">1[12]</td>' && has 14 '<td class="request">linux ' &&
-        has 1 '<th>no</th><th>request</th><th>low</th><th>high</th><th>remarks</th>' && has 4 '<th>low</th><th>high</th><th>differs</th>'
+        has 1 '<th>no</th><th>request</th><th>low</th><th>high</th><th>remarks</th>' && has 5 '<th>low</th><th>high</th><th>differs</th>'
 }
 try "the page of Linux requests" linux_page
 # With all levels the colour goes by Restricted: None denies what reads, too.

@@ -69,8 +69,8 @@ try "no request gets past its header's checks" no_mark "no request gets past its
 try "its answers are shown" no_mark "2 bad control code" "$dir"
 dir=$(with one_header session.txt "get-link-errors reset=2\nraw 0102\n")
 try "code 3 of a request's own check is past its header" marks 0 "mark: 0 of 2 differ, 0 denied low" "$dir"
-try "a cut session is marked up to the cut" marks 1 "mark: 3 of 16 up to the cut differ, 3 denied low" samples/refusals
-try "and says where" marks 1 "the session is cut at request 17, byte 3391: its length says 28 bytes, and there are 3" samples/refusals
+try "a cut session is marked up to the cut" marks 1 "mark: 4 of 17 up to the cut differ, 4 denied low" samples/refusals
+try "and says where" marks 1 "the session is cut at request 18, byte 3467: its length says 28 bytes, and there are 3" samples/refusals
 dir=$(with cut_length session.txt "get-phy-info\ntail 0102\n")
 try "a length cut short" marks 0 "the session is cut at request 2, byte 2084: of its length of 4 bytes there are 2" "$dir"
 dir=$(with oversized session.txt "get-phy-info\ntail 01800000+00*40000\n")
@@ -107,7 +107,7 @@ dir=$(exercise protocols) && sed -i 's/attached=sas/attached=sata attached-targe
 try "no SATA bit" marks 0 "warning phy 2: what is attached looks like a disk, but its target protocols 04h have no SATA bit" "$dir"
 dir=$(exercise asked) && echo "stp-passthru phy=2 destination=5000C50000000003 command=ECh data=00*512" >>"$dir/session.txt"
 try "a SAS device that is asked like a disk" marks 0 "warning phy 2: what is attached looks like a disk" "$dir"
-try "no warnings about the samples" eval '! grep -q warning "$here"/lab/{good,writes,refusals,spin-up,levels}.out'
+try "no warnings about the samples" eval '! grep -q warning "$here"/lab/{good,writes,refusals,spin-up,firmware,levels}.out'
 kit_warns() {
     "$kit" adapter "$1" "$work/made" 2>"$work/errors" && grep -qF "labkit: warning: $1: phy 0: its own identify device type is 0" "$work/errors"
 }

@@ -56,7 +56,7 @@ dir=$(with given_disks session.txt "$disk command=30h lba=1 count=1 data=5A*512\
 try "--disks" marks 1 " phy 0 LBA 2, 512 bytes 5A*512 00*512" --disks "$work/disks" "$dir"
 try "--disks, a write of what is there" marks 1 "0 values and 1 sector left differ" --disks="$work/disks" "$dir"
 printf 12345 >"$work/five"
-try "--disks of another length" no_mark "106 medium length; 5 bytes are given, and 4 phys have 8192 bytes each" --disks "$work/five" "$dir"
+try "--disks of another length" no_mark "106 medium or stage length; 5 bytes are given, and 4 phys have 8192 bytes each" --disks "$work/five" "$dir"
 try "--disks, no such file" lab_refuses "nowhere is missing; --disks takes the bytes of the disks" --disks nowhere
 try "--disks, a folder" lab_refuses "samples is not a file" --disks samples
 

@@ -50,7 +50,7 @@ try "the page escapes names" escaped
 try "a page without a mark" without_a_mark
 four_levels() {
     "$lab" --levels --html "$page" >/dev/null
-    [ $? -eq 1 ] && has 4 '<th>None</th><th>Restricted</th><th>Limited</th><th>Full</th><th>differs</th>'
+    [ $? -eq 1 ] && has 5 '<th>None</th><th>Restricted</th><th>Limited</th><th>Full</th><th>differs</th>'
 }
 try "a page of four levels" four_levels
 

@@ -11,7 +11,7 @@ tally_of() {
 tallied_as_the_program() {
     program "$1" low | tail -n 1 | diff <(tally_of 1 "samples/$1") - && program "$1" high | tail -n 1 | diff <(tally_of 2 "samples/$1") -
 }
-for sample in good writes refusals spin-up; do
+for sample in good writes refusals spin-up firmware; do
     try "the program's total of samples/$sample" tallied_as_the_program "$sample"
 done
 total_last() {
@@ -90,7 +90,7 @@ try "short buffers of both headers" marks 2 " 100s 2 2" "$work/linux_headers"
 # 3: no tally where the session was not run
 untallied() {
     rm -f "$page"
-    no_mark "no tally: the session was not run" "$1" && ! grep -q '^tally' "$work/printed" && marks 2 '"tally": null}, {' --json "$1" &&
+    no_mark "no tally: the session was not run" "$1" && ! grep -q '^tally' "$work/printed" && marks 2 '"tally": null, "firmware": null}, {' --json "$1" &&
         unmarked tally --csv "$1" && ! "$lab" --html "$page" "$1" >/dev/null && has 1 '<p class="note">no tally: the session was not run</p>' && has 0 Tally
 }
 try "no tally, an adapter that is refused" untallied "$work/refused_102"
@@ -118,12 +118,12 @@ compared_totals() {
  a last request, cut
 
  tally low high
- requests 16 16
+ requests 17 17
  granted 1 2
- denied 3 0
- otherwise refused 11 13
+ denied 4 0
+ otherwise refused 11 14
  100s 1 1
-codes: 3 of 16 differ, 3 denied low
+codes: 4 of 17 differ, 4 denied low
 END
         )
 }

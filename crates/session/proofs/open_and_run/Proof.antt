@@ -8,4 +8,4 @@ pub open-and-run-spec : {M : Type 1} → statement M
 open-and-run-spec =
     tie.close
     (tie.spec (λ c. search needs) (λ c κs. search needs) (λ c. search needs) (λ c κs. search needs) (λ c. search needs)
-    (λ c. search needs) (λ c. search needs) (λ c. search (opened-ran, needs)))
+    (λ c. search needs) (λ c. search needs) (λ c. search needs) (λ c. search (opened-ran, needs)))

@@ -10,4 +10,4 @@ record-first-spec =
     tie.close
     (tie.spec (λ c. search needs) (λ c. search (front-lent, needs)) (λ c. search needs)
     (λ c. search (front-lent, needs)) (λ c κs. (search needs, (search needs, (search (prefix-lent, needs), search (length-take-le, needs))))) (λ c. search needs) (λ c. search needs)
-    (λ c. search needs) (λ c. search needs) (λ c. search (first-left, needs)))
+    (λ c. search needs) (λ c. search needs) (λ c. search needs) (λ c. search (first-left, needs)))

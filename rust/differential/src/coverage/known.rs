@@ -32,7 +32,7 @@ impl Kind {
     pub fn calls(self) -> &'static [u32] {
         match self {
             Kind::First | Kind::Linux(NONE) => &call::REQUESTS,
-            Kind::Linux(_) => &[call::DONE, call::BUFFER_LENGTH],
+            Kind::Linux(_) => &[call::DONE, call::BUFFER_LENGTH, call::STAGE_LENGTH],
         }
     }
 
@@ -72,6 +72,7 @@ impl Kind {
 fn own_codes(control: u32) -> &'static [u32] {
     use status::*;
     match control {
+        code::FIRMWARE_DOWNLOAD => &[FAILED],
         code::SET_PHY_INFO => &[
             PHY_INFO_NOT_CHANGEABLE,
             LINK_RATE_OUT_OF_RANGE,

@@ -1,8 +1,9 @@
 //! How often each number, return code and command was met, with the first header, and with the Linux header at each level; code 22 by its
-//! reset byte too, and codes 2, 3 and 30 by the level with both; what was met of disks held at spin-up; and which of those that the
-//! documents know were not.
+//! reset byte too, and codes 2, 3 and 30 by the level with both; what was met of disks held at spin-up and of firmware; and which of those
+//! that the documents know were not.
 
 pub mod by_level;
+mod firmware;
 mod front_page;
 pub mod known;
 pub mod link_errors;
@@ -13,6 +14,7 @@ use crate::case::{Case, Outcome};
 use crate::names::{call, state};
 use crate::request::Header;
 use by_level::ByLevel;
+use firmware::Firmware;
 use known::Kind;
 use met::Met;
 use spinup::Spinup;
@@ -27,6 +29,7 @@ pub struct Coverage {
     link_errors: ByLevel<link_errors::Asked>,
     front_page: ByLevel<front_page::Asked>,
     spinup: Spinup,
+    firmware: Firmware,
 }
 
 impl Coverage {
@@ -38,6 +41,7 @@ impl Coverage {
     pub fn count(&mut self, case: &Case, outcome: &Outcome) {
         self.opening(outcome.opening);
         self.spinup.count(case, outcome);
+        self.firmware.count(case, outcome);
         let state = outcome.state.as_ref().expect("the state is shown");
         for exchange in case.exchanges(outcome) {
             self.requests += 1;
@@ -71,6 +75,7 @@ impl Coverage {
             .chain(self.link_errors.missing())
             .chain(self.front_page.missing())
             .chain(self.spinup.missing())
+            .chain(self.firmware.missing())
             .collect()
     }
 
@@ -90,6 +95,7 @@ impl Coverage {
             .chain(self.link_errors.unknown())
             .chain(self.front_page.unknown())
             .chain(self.spinup.unknown())
+            .chain(self.firmware.unknown())
             .collect()
     }
 }
@@ -107,8 +113,8 @@ impl fmt::Display for Coverage {
         }
         write!(
             f,
-            "\n{}\n{}\n{}",
-            self.link_errors, self.front_page, self.spinup
+            "\n{}\n{}\n{}\n{}",
+            self.link_errors, self.front_page, self.spinup, self.firmware
         )
     }
 }

@@ -1,6 +1,7 @@
 //! Requests with either header: sound ones, most of which an adapter grants, and ones with a fault.
 
 pub mod fault;
+pub mod firmware;
 pub mod first;
 pub mod fis;
 pub mod header;
@@ -63,11 +64,12 @@ pub type OfBody = fn(u32, &[u8]) -> Request;
 /// A sound header before a body, each.
 pub const HEADERS: [OfBody; 2] = [first::of_body, linux::of_body];
 
-/// A code, the passthrough and the change of a phy more often than the others.
+/// A code, the passthrough, the change of a phy and the firmware more often than the others.
 pub fn any_code(random: &mut Random) -> u32 {
-    match random.below(3) {
-        0 => code::STP_PASSTHRU,
-        1 => random.pick(&[code::SET_PHY_INFO, code::LINK_ERRORS]),
+    match random.below(13) {
+        0..=3 => code::STP_PASSTHRU,
+        4..=7 => random.pick(&[code::SET_PHY_INFO, code::LINK_ERRORS]),
+        8 => code::FIRMWARE_DOWNLOAD,
         _ => random.pick(&code::ALL),
     }
 }

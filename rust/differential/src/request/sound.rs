@@ -1,5 +1,6 @@
-//! The bodies of sound requests. Addresses, phys and rows are mostly the adapter's own.
+//! The bodies of sound requests. Addresses, phys and rows are mostly the adapter's own, and images mostly valid.
 
+use super::firmware::Download;
 use super::passthrough::Passthrough;
 use crate::adapter::Adapter;
 use crate::names::link_error::{DONT_RESET_COUNTS, RESET_COUNTS};
@@ -10,8 +11,10 @@ use crate::names::{
 use crate::random::Random;
 
 pub fn body(random: &mut Random, adapter: &Adapter, control: u32) -> Vec<u8> {
-    if control == code::STP_PASSTHRU {
-        return Passthrough::sound(random, adapter).body(random);
+    match control {
+        code::FIRMWARE_DOWNLOAD => return Download::any(random).body(random),
+        code::STP_PASSTHRU => return Passthrough::sound(random, adapter).body(random),
+        _ => {}
     }
     let mut body = random.bytes(body_size(control).unwrap_or(0));
     match control {

@@ -1,9 +1,9 @@
 //! Every single byte of a sound state altered, and requests to the altered state.
 
-use super::reading;
+use super::{put_staged, reading};
 use crate::adapter::Adapter;
 use crate::compare::Difference;
-use crate::names::{call, state};
+use crate::names::{call, state, STAGE};
 use crate::pair::Pair;
 use crate::random::Random;
 use crate::request::{any_code, first, linux};
@@ -26,14 +26,20 @@ pub struct Alterations {
     pub differences: Vec<Difference>,
 }
 
-/// Alters each byte of a state of p phys and a rows, at level Full, and sends the requests that read it and a sound one.
+/// Alters each byte of a state of p phys and a rows, at level Full, and sends the requests that read it and a sound one. What is staged is
+/// altered in a state without and in one with a staged image.
 pub fn run(seed: u64, p: usize, a: usize, values: Values) -> Alterations {
     let random = &mut Random::new(seed);
     let adapter = Adapter::of_counts(random, p, a);
     let sound = adapter.state(3);
-    let mut pair = Pair::of(&sound, &random.bytes(adapter.medium_length()));
+    let mut staged = sound.clone();
+    put_staged(random, &mut staged);
+    let (medium, stage) = (random.bytes(adapter.medium_length()), random.bytes(STAGE));
+    let mut pair = Pair::lending(&sound, &medium, &stage);
     let mut done = Alterations::default();
-    for at in 0..state::SIZE {
+    let places = (0..state::SIZE).map(|at| (&sound, at));
+    let of_staged = (state::STAGED..state::SIZE).map(|at| (&staged, at));
+    for (sound, at) in places.chain(of_staged) {
         for byte in values.of(random, sound[at]) {
             let mut altered = sound.clone();
             altered[at] = byte;
@@ -67,7 +73,7 @@ impl Values {
 }
 
 impl Alterations {
-    /// Each request gets the altered state, and some go by the Linux header too; the medium goes on.
+    /// Each request gets the altered state, and some go by the Linux header too; medium and stage go on.
     fn one(
         &mut self,
         random: &mut Random,

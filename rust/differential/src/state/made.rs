@@ -1,17 +1,17 @@
-//! Requests to states that a caller made, sound or not, with media of the right length and of others.
+//! Requests to states that a caller made, sound or not, with media and stages of the right length and of others.
 
-use super::medium_length;
+use super::{medium_length, put_staged};
 use crate::adapter::damage::{self, Damage};
 use crate::adapter::form::Form;
 use crate::adapter::Adapter;
 use crate::compare::Difference;
-use crate::medium;
-use crate::names::{DISK, MAX_PHYS};
+use crate::names::{call, DISK, MAX_PHYS, STAGE};
 use crate::pair::Pair;
 use crate::random::Random;
 use crate::request;
 use crate::spinup::is_unsound_by_hold;
 use crate::text::LEVELS;
+use crate::{medium, stage};
 use std::collections::BTreeMap;
 
 #[derive(Default)]
@@ -22,6 +22,8 @@ pub struct Made {
     pub calls: BTreeMap<u32, u64>,
     /// 107 for a spin-up hold alone, with the first header and with the Linux header.
     pub by_hold: [u64; 2],
+    /// 106 for the stage alone, by the header.
+    pub by_stage: [u64; 2],
     pub differences: Vec<Difference>,
 }
 
@@ -42,23 +44,26 @@ impl Made {
     fn one(&mut self, random: &mut Random, broken: &[&Damage]) -> Result<(), String> {
         let adapter = Adapter::sound(random);
         let state = state(random, &adapter, broken);
-        let mut pair = Pair::of(&state, &lent_medium(random, &state));
+        let medium = lent_medium(random, &state);
+        let mut pair = Pair::lending(&state, &medium, &stage::any(random));
         self.states += 1;
-        let by_hold = state
-            .as_array()
-            .is_some_and(|state| is_unsound_by_hold(state, pair.medium()));
+        let by_hold = state.as_array().is_some_and(is_unsound_by_hold);
+        let by_stage = medium.len() == medium_length(&state) && pair.stage().len() != STAGE;
         for _ in 0..4 {
             let request = request::any(random, &adapter);
             self.requests += 1;
             let number = pair.request(&request)?.number;
             *self.calls.entry(number).or_default() += 1;
-            self.by_hold[usize::from(request.header.is_linux())] += u64::from(by_hold);
+            let header = usize::from(request.header.is_linux());
+            self.by_hold[header] += u64::from(by_hold);
+            let refused = by_stage && number == call::STAGE_LENGTH;
+            self.by_stage[header] += u64::from(refused);
         }
         Ok(())
     }
 }
 
-/// A sound state, one that breaks a rule if the adapter has a place for it, or any bytes.
+/// A sound state, at times with a staged image, one that breaks a rule if the adapter has a place for it, or any bytes.
 fn state(random: &mut Random, adapter: &Adapter, broken: &[&Damage]) -> Vec<u8> {
     let level = random.pick(&LEVELS);
     match random.below(4) {
@@ -67,7 +72,13 @@ fn state(random: &mut Random, adapter: &Adapter, broken: &[&Damage]) -> Vec<u8> 
             let state = random.pick(broken).state(random, adapter, level);
             state.unwrap_or_else(|| adapter.state(level))
         }
-        _ => adapter.state(level),
+        _ => {
+            let mut state = adapter.state(level);
+            if random.one_in(3) {
+                put_staged(random, &mut state);
+            }
+            state
+        }
     }
 }
 

@@ -5,7 +5,7 @@ pub mod made;
 pub mod reading;
 
 use crate::adapter::Adapter;
-use crate::names::{state, DISK, MAX_PHYS, MAX_ROWS};
+use crate::names::{state, DISK, MAX_PHYS, MAX_ROWS, REVISIONS};
 use crate::random::Random;
 use crate::text::LEVELS;
 
@@ -25,7 +25,10 @@ pub fn any(random: &mut Random, adapter: &Adapter) -> Vec<u8> {
         _ => adapter.state(level),
     };
     for _ in 0..random.pick(&[0, 0, 1, 1, 2, 8]) {
-        let at = random.below(bytes.len());
+        let at = match random.below(8) {
+            0 => random.within(state::STAGED, state::SIZE - 1),
+            _ => random.below(bytes.len()),
+        };
         bytes[at] = match random.below(2) {
             0 => random.pick(&EDGES),
             _ => random.byte(),
@@ -46,6 +49,16 @@ fn counted(random: &mut Random) -> Vec<u8> {
     bytes[state::PHY_COUNT] = random.within(1, MAX_PHYS) as u8;
     bytes[state::ROW_COUNT] = random.within(0, MAX_ROWS) as u8;
     bytes
+}
+
+/// A staged image in a sound state; its revisions may be 0.
+pub fn put_staged(random: &mut Random, bytes: &mut [u8]) {
+    let revisions: [u8; REVISIONS] = match random.one_in(6) {
+        true => [0; REVISIONS],
+        false => random.array(),
+    };
+    bytes[state::STAGED] = 1;
+    bytes[state::STAGED_REVISIONS..].copy_from_slice(&revisions);
 }
 
 /// The length of the medium that belongs to a state, by its phy count.

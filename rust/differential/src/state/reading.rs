@@ -14,6 +14,7 @@ enum Place {
     Row(usize),
     /// The code that shows it.
     FrontPage(u32),
+    Staged,
 }
 
 fn place(at: usize) -> Place {
@@ -27,7 +28,8 @@ fn place(at: usize) -> Place {
         state::ROWS..state::CONTROLLER_CONFIG => Place::Row((at - state::ROWS) / row::SIZE),
         state::CONTROLLER_CONFIG..state::CONTROLLER_STATUS => Place::FrontPage(code::CNTLR_CONFIG),
         state::CONTROLLER_STATUS..state::CONNECTORS => Place::FrontPage(code::CNTLR_STATUS),
-        _ => Place::FrontPage(code::CONNECTOR_INFO),
+        state::CONNECTORS..state::STAGED => Place::FrontPage(code::CONNECTOR_INFO),
+        _ => Place::Staged,
     }
 }
 
@@ -56,6 +58,7 @@ pub fn requests(random: &mut Random, state: &[u8], at: usize) -> Vec<Request> {
             device_address(row_of(state, i)),
         ],
         Place::FrontPage(control) => vec![front_page(control)],
+        Place::Staged => vec![commit()],
     }
 }
 
@@ -90,6 +93,11 @@ pub fn phy_info() -> Request {
 /// One of codes 2, 3 and 30.
 pub fn front_page(control: u32) -> Request {
     request(control, &[])
+}
+
+/// Makes what is staged current.
+fn commit() -> Request {
+    request(code::FIRMWARE_DOWNLOAD, &[])
 }
 
 fn link_errors(n: usize) -> Request {

@@ -1,9 +1,9 @@
-//! The report as CSV: a line for each request, each line of the front page, each value left differently, the numbers of denied requests,
-//! each number of the tally, each warning, and the mark.
+//! The report as CSV: a line for each request, each line of the front page, each value left differently, the firmware of the runs, the
+//! numbers of denied requests, each number of the tally, each warning, and the mark.
 
 use super::escape::csv as cell;
-use super::{group, header_key, tally, verdict};
-use crate::left::GROUPS;
+use super::{firmware, group, header_key, tally, verdict, written};
+use crate::left::{Group, GROUPS};
 use crate::linux;
 use crate::marking::Marking;
 use labkit::report::{request_words, Difference};
@@ -11,6 +11,9 @@ use labkit::report::{request_words, Difference};
 /// The columns behind those of the runs; of a session with Linux requests two more.
 const ENDS: [&str; 2] = ["differs", "where"];
 const LINUX_ENDS: [&str; 2] = ["header", "denied under the first header"];
+
+/// The kind of the firmware's lines.
+const FIRMWARE: &str = "firmware";
 
 pub fn csv(marking: &Marking) -> String {
     let names = marking.runs.iter().map(|run| run.name.to_string());
@@ -29,6 +32,9 @@ pub fn csv(marking: &Marking) -> String {
         for difference in group(marking, kind) {
             out.push_str(&line(count, valued(kind.key(), difference).into_iter()));
         }
+    }
+    for cells in of_firmware(marking) {
+        out.push_str(&line(count, cells.into_iter()));
     }
     for (kind, what, number) in counts(marking) {
         let first = [kind, "", what].map(String::from);
@@ -67,6 +73,24 @@ fn valued(kind: &str, found: &Difference) -> Vec<String> {
     cells.extend(found.values.iter().cloned());
     cells.push(yes(found.values_differ()));
     cells
+}
+
+/// The lines of the firmware: what runs and what is staged, and whether the stages differ, with the blocks in which they do, or how many
+/// were written where they do not.
+fn of_firmware(marking: &Marking) -> Vec<Vec<String>> {
+    let lines = firmware(marking);
+    let mut found: Vec<_> = lines.iter().map(|line| valued(FIRMWARE, line)).collect();
+    if !found.is_empty() {
+        let blocks: Vec<&str> = group(marking, Group::Stage)
+            .map(|block| block.what.as_str())
+            .collect();
+        let place = written(marking).unwrap_or(blocks.join("; "));
+        let mut cells = [FIRMWARE, "", "stages"].map(String::from).to_vec();
+        cells.resize(3 + marking.runs.len(), String::new());
+        cells.extend([yes(!blocks.is_empty()), place]);
+        found.push(cells);
+    }
+    found
 }
 
 fn yes(yes: bool) -> String {

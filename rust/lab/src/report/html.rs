@@ -1,8 +1,10 @@
-//! The report as one page that needs nothing from elsewhere: the mark and the tally, both runs side by side, what differs marked by
-//! colour and by word, the counters, and the sectors that a run changed. It is fit to be printed.
+//! The report as one page that needs nothing from elsewhere: the mark, the tally and the firmware, both runs side by side, what differs
+//! marked by colour and by word, the counters, and the sectors that a run changed. It is fit to be printed.
 
 use super::escape::html as plain;
-use super::{explained, group, head, pairs, remarks, verdict, NO_TALLY};
+use super::{
+    explained, group, group_words, head, pairs, remarks, stages, verdict, NO_FIRMWARE, NO_TALLY,
+};
 use crate::left::{sectors, COUNTERS, GROUPS};
 use crate::linux::{below_tally, coloured};
 use crate::marking::Marking;
@@ -27,10 +29,12 @@ pub fn html(marking: &Marking) -> String {
         out.push_str(&paragraph(class, &format!("{name}: {words}")));
     }
     out.push_str(&tally(marking));
+    out.push_str(&firmware(marking));
     if !marking.rows.is_empty() {
         out.push_str(&requests(marking));
         if !marking.front.is_empty() {
-            out.push_str(&section("Front page", &front(marking)));
+            let front = compared(marking, "front page", &marking.front);
+            out.push_str(&section("Front page", &front));
         }
         out.push_str(&section("What the runs left and differs", &left(marking)));
         out.push_str(&section("Counters", &counters(marking)));
@@ -65,6 +69,19 @@ fn tally(marking: &Marking) -> String {
         content.push_str(&paragraph("note", &words));
     }
     section("Tally", &content)
+}
+
+/// The firmware of each run at its end, and whether the stages are the same.
+fn firmware(marking: &Marking) -> String {
+    let lines = super::firmware(marking);
+    if lines.is_empty() {
+        return paragraph("note", NO_FIRMWARE);
+    }
+    let content = compared(marking, "firmware", &lines);
+    section(
+        "Firmware",
+        &(content + &paragraph("note", &stages(marking))),
+    )
 }
 
 fn requests(marking: &Marking) -> String {
@@ -139,18 +156,18 @@ fn values(difference: &Difference) -> impl Iterator<Item = String> + '_ {
     difference.values.iter().map(|value| cell("value", value))
 }
 
-/// The front page, with the words of each run.
-fn front(marking: &Marking) -> String {
+/// Lines with a value of each run, those that differ marked.
+fn compared(marking: &Marking, name: &str, lines: &[Difference]) -> String {
     let mut rows = String::new();
-    for line_of_page in &marking.front {
-        let (class, word) = match line_of_page.values_differ() {
+    for found in lines {
+        let (class, word) = match found.values_differ() {
             true => ("differs", "differs"),
             false => ("same", ""),
         };
-        let cells = valued(&[&line_of_page.what], line_of_page, word);
+        let cells = valued(&[&found.what], found, word);
         rows.push_str(&line(class, &cells));
     }
-    table(&heads(marking, &["front page"], &["differs"]), &rows)
+    table(&heads(marking, &[name], &["differs"]), &rows)
 }
 
 /// The values left differently, by group.
@@ -158,11 +175,10 @@ fn left(marking: &Marking) -> String {
     let mut rows = String::new();
     for kind in GROUPS {
         let found: Vec<_> = group(marking, kind).collect();
-        let same = if found.is_empty() { ": the same" } else { "" };
         let wide = format!(
-            "<td colspan=\"{}\">{}{same}</td>",
+            "<td colspan=\"{}\">{}</td>",
             marking.runs.len() + 2,
-            kind.name()
+            group_words(kind, found.is_empty())
         );
         rows.push_str(&line("group", &[wide]));
         for difference in found {

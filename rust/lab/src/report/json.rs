@@ -3,8 +3,9 @@
 use super::escape::json as string;
 use super::{group, header_key, pairs, verdict};
 use crate::answer::Answer;
+use crate::firmware::Firmware;
 use crate::left::GROUPS;
-use crate::marking::Marking;
+use crate::marking::{Counts, Marking};
 use crate::row::Row;
 use labkit::names::level_name;
 use labkit::report::{request_words, Difference, Totals, COUNTED};
@@ -55,6 +56,8 @@ pub fn json(marking: &Marking) -> String {
         ),
         ("front_page", list(marking.front.iter().map(difference))),
         ("left", left(marking)),
+        ("stages_same", stages_same(marking)),
+        ("stage_blocks_written", written(marking)),
         (
             "pairs",
             list(pairs(marking).into_iter().map(|found| pair(marking, found))),
@@ -81,7 +84,7 @@ pub fn json(marking: &Marking) -> String {
 fn run(marking: &Marking, i: usize) -> String {
     let (run, text) = (&marking.runs[i], &marking.exercise.texts[i]);
     let level = (run.opening == 0).then(|| level_name(run.level()));
-    let tallies = marking.tallies();
+    let (tallies, ends) = (marking.tallies(), marking.firmware());
     let mut members = vec![
         ("name", string(run.name)),
         ("text", string(&String::from_utf8_lossy(&text.bytes))),
@@ -89,6 +92,7 @@ fn run(marking: &Marking, i: usize) -> String {
         ("level", optional(level)),
         ("denied", marking.denied(i).to_string()),
         ("tally", tallies.get(i).map_or("null".to_string(), tally)),
+        ("firmware", ends.get(i).map_or("null".to_string(), firmware)),
     ];
     if marking.has_linux() {
         members.push(("above", marking.above(i).to_string()));
@@ -99,6 +103,28 @@ fn run(marking: &Marking, i: usize) -> String {
 fn tally(tally: &Totals) -> String {
     let numbers = tally.0.map(|number| number.to_string());
     object(&TALLY.into_iter().zip(numbers).collect::<Vec<_>>())
+}
+
+/// The firmware of a run at its end.
+fn firmware(end: &Firmware) -> String {
+    object(&[
+        ("running", string(&end.running)),
+        ("staged", optional(end.staged.as_deref())),
+    ])
+}
+
+/// Whether the stages of all runs are the same; null where the session was not run.
+fn stages_same(marking: &Marking) -> String {
+    let same = marking.left_counts().blocks == 0;
+    let known = marking.was_run.then(|| same.to_string());
+    known.unwrap_or("null".to_string())
+}
+
+/// How many blocks of its stage each run wrote; null where the session was not run.
+fn written(marking: &Marking) -> String {
+    let blocks = marking.written().into_iter();
+    let known = marking.was_run.then(|| list(blocks.map(|n| n.to_string())));
+    known.unwrap_or("null".to_string())
 }
 
 fn request(marking: &Marking, number: usize, sent: &Request, row: &Row) -> String {
@@ -162,7 +188,11 @@ fn mark(marking: &Marking) -> String {
     if marking.no_mark.is_some() {
         return "null".to_string();
     }
-    let (values, sectors) = marking.left_counts();
+    let Counts {
+        values,
+        sectors,
+        blocks,
+    } = marking.left_counts();
     let each = |count: fn(&Marking, usize) -> usize| {
         list((0..marking.runs.len()).map(|i| count(marking, i).to_string()))
     };
@@ -172,6 +202,7 @@ fn mark(marking: &Marking) -> String {
         ("denied", each(|marking, i| marking.denied(i))),
         ("values_left", values.to_string()),
         ("sectors_left", sectors.to_string()),
+        ("stage_blocks_left", blocks.to_string()),
     ];
     if marking.has_linux() {
         members.push(("above", each(|marking, i| marking.above(i))));

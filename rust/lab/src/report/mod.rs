@@ -11,10 +11,11 @@ pub use html::html;
 pub use json::json;
 pub use text::text;
 
+use crate::firmware::Firmware;
 use crate::left::Group;
 use crate::level;
 use crate::linux;
-use crate::marking::Marking;
+use crate::marking::{Counts, Marking};
 use crate::row::Row;
 use labkit::names::level_name;
 use labkit::report::{Difference, COUNTED};
@@ -63,16 +64,62 @@ fn tally(marking: &Marking) -> Vec<Difference> {
     lines.filter(|line| !line.values.is_empty()).collect()
 }
 
+/// What is said where the session was not run.
+const NO_FIRMWARE: &str = "no firmware: the session was not run";
+/// What stands for an image where nothing is staged.
+const NOT_STAGED: &str = "none";
+
+/// The firmware of each run at its end: what runs, and what is staged; nothing where the session was not run.
+fn firmware(marking: &Marking) -> Vec<Difference> {
+    let ends = marking.firmware();
+    let staged = |end: &Firmware| end.staged.clone().unwrap_or(NOT_STAGED.to_string());
+    let lines = [
+        (
+            "running",
+            ends.iter().map(|end| end.running.clone()).collect(),
+        ),
+        ("staged", ends.iter().map(staged).collect::<Vec<_>>()),
+    ];
+    let line = |(what, values): (&str, Vec<String>)| Difference {
+        what: what.to_string(),
+        values,
+    };
+    let lines = lines.into_iter().map(line);
+    lines.filter(|line| !line.values.is_empty()).collect()
+}
+
+/// What is said of stages that are the same.
+const STAGES_SAME: &str = "the stages are the same";
+
+/// Whether the runs left the same stages, and if so how much was written there.
+fn stages(marking: &Marking) -> String {
+    match (marking.left_counts().blocks, written(marking)) {
+        (0, None) => STAGES_SAME.to_string(),
+        (0, Some(written)) => format!("{STAGES_SAME}, {written}"),
+        (blocks, _) => format!("the stages differ in {}", counted(blocks, "block")),
+    }
+}
+
+/// How much the runs wrote to stages that are the same: `2 blocks written`; nothing where they wrote none, or differ.
+fn written(marking: &Marking) -> Option<String> {
+    let blocks = marking.written().into_iter().next()?;
+    let same = marking.left_counts().blocks == 0;
+    (same && blocks > 0).then(|| format!("{} written", counted(blocks, "block")))
+}
+
 /// How much the runs left differently.
 fn left_words(marking: &Marking) -> String {
-    match marking.left_counts() {
-        (0, 0) => "what they left is the same".to_string(),
-        (values, sectors) => {
-            format!(
-                "{} and {} left differ",
-                counted(values, "value"),
-                counted(sectors, "sector")
-            )
+    let Counts {
+        values,
+        sectors,
+        blocks,
+    } = marking.left_counts();
+    match (counted(values, "value"), counted(sectors, "sector"), blocks) {
+        (_, _, 0) if marking.left.is_empty() => "what they left is the same".to_string(),
+        (values, sectors, 0) => format!("{values} and {sectors} left differ"),
+        (values, sectors, blocks) => {
+            let blocks = counted(blocks, "block");
+            format!("{values}, {sectors} and {blocks} of the stage left differ")
         }
     }
 }
@@ -191,4 +238,13 @@ fn group<'m>(marking: &'m Marking, group: Group) -> impl Iterator<Item = &'m Dif
         .iter()
         .filter(of_it)
         .map(|left| &left.difference)
+}
+
+/// The line above a group, where that is the whole of it too.
+fn group_words(kind: Group, same: bool) -> String {
+    match (kind, same) {
+        (Group::Stage, true) => STAGES_SAME.to_string(),
+        (_, true) => format!("{}: the same", kind.name()),
+        (_, false) => kind.name().to_string(),
+    }
 }

@@ -1,6 +1,10 @@
-//! The plain report: the exercise, the requests with their answers, what the runs left, the tally, and the mark in the last line.
+//! The plain report: the exercise, the requests with their answers, what the runs left, their firmware, the tally, and the mark in the
+//! last line.
 
-use super::{explained, group, head, pairs, remarks, tally, verdict, NO_TALLY};
+use super::{
+    explained, firmware, group, group_words, head, pairs, remarks, stages, tally, verdict,
+    NO_FIRMWARE, NO_TALLY,
+};
 use crate::left::GROUPS;
 use crate::linux;
 use crate::marking::Marking;
@@ -22,6 +26,10 @@ pub fn text(marking: &Marking) -> String {
         out.push_str(&table(marking, "front page", &marking.front, None));
         out.push_str(&columns(&left(marking)));
         out.push('\n');
+    }
+    match &firmware(marking)[..] {
+        [] => out.push_str(&line(Some(NO_FIRMWARE))),
+        lines => out.push_str(&table(marking, "firmware", lines, Some(&stages(marking)))),
     }
     match &tally(marking)[..] {
         [] => out.push_str(&line(Some(NO_TALLY))),
@@ -91,13 +99,12 @@ fn table(marking: &Marking, name: &str, lines: &[Difference], below: Option<&str
     format!("{}{}\n", columns(&cells), line(below))
 }
 
-/// What differs at the end, in four groups.
+/// What differs at the end, by group.
 fn left(marking: &Marking) -> Vec<Vec<String>> {
     let mut lines = vec![heading(marking, &["left by the runs"])];
     for kind in GROUPS {
         let found: Vec<_> = group(marking, kind).map(|d| valued(&[""], d)).collect();
-        let same = if found.is_empty() { ": the same" } else { "" };
-        lines.push(vec![format!("{}{same}", kind.name())]);
+        lines.push(vec![group_words(kind, found.is_empty())]);
         lines.extend(found);
     }
     lines

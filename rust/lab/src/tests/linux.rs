@@ -9,6 +9,7 @@ use differential::random::Random;
 use differential::request::first::of_body;
 use differential::wire::{put_word, word};
 use library::{prefix, record};
+use model::layout::firmware;
 use model::layout::linux_header as linux;
 
 /// The exercise with half of its requests under the Linux header.
@@ -66,8 +67,13 @@ pub fn passes(control: u32, buffer: &[u8]) -> bool {
     let [low, high] = [0, 1].map(|i| buffer[linux::DIRECTION + i]);
     let length = word(buffer, linux::LENGTH) as usize;
     let inside = linux::SIZE + size <= length && length <= buffer.len();
-    let data = || word(buffer, linux::SIZE + stp::DATA_LENGTH) as usize;
-    let whole = control != code::STP_PASSTHRU || (inside && length - linux::SIZE - size >= data());
+    let data = |at: usize| word(buffer, linux::SIZE + at) as usize;
+    let room = |at: usize| inside && length - linux::SIZE - size >= data(at);
+    let whole = match control {
+        code::FIRMWARE_DOWNLOAD => room(firmware::BUFFER_LENGTH),
+        code::STP_PASSTHRU => room(stp::DATA_LENGTH),
+        _ => true,
+    };
     high == 0 && low <= 1 && inside && whole
 }
 
@@ -77,6 +83,7 @@ pub fn is_above(state: &State, medium: &[u8], control: u32, buffer: &[u8]) -> bo
         && model::denied(
             state,
             medium,
+            &STAGE,
             &of_body(control, &buffer[linux::SIZE..]).buffer,
         )
 }
@@ -88,7 +95,7 @@ fn the_run_of_both_headers_is_the_calls() {
     for seed in 0..CASES {
         let exercise = mixed(seed, exercise(seed, &[seed as usize % 4]));
         let (text, file) = (&exercise.texts[0].bytes, &exercise.adapter.bytes);
-        let mut medium = exercise.medium();
+        let (mut medium, mut stage) = (exercise.medium(), STAGE);
         let mut one = Run::open("one", text, file, &medium);
         let session = exercise.form.split(&exercise.session.bytes);
         let mut replies = Vec::new();
@@ -103,10 +110,11 @@ fn the_run_of_both_headers_is_the_calls() {
         replies.extend(session.tail);
         let mut whole = exercise.session.bytes.clone();
         let mut record = vec![0; record::SIZE * session.requests.len()];
-        let count = library::run_both(text, file, &mut medium, &mut whole, &mut record);
+        let count = library::run_both(text, file, &mut medium, &mut stage, &mut whole, &mut record);
         assert_eq!(count, session.requests.len(), "seed {seed}");
         assert!(whole == replies && record == one.record, "seed {seed}");
         assert!(medium == one.medium, "seed {seed}");
+        assert!(stage[..] == one.stage, "seed {seed}");
     }
     assert!(handled.iter().all(|count| *count > 500), "{handled:?}");
 }

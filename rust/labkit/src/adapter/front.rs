@@ -44,11 +44,7 @@ pub fn connector_words(reference: &[u8]) -> String {
 /// The lines of a console's front page that a configuration gives: a name and words for each.
 pub fn controller_lines(info: &[u8]) -> Vec<(String, String)> {
     let shown = |at: usize| shown(&CONTROLLER, at, info);
-    let revision = |at: usize| -> String {
-        let numbers = info[at..at + 8].chunks(2);
-        let shown = numbers.map(|pair| u16::from_le_bytes([pair[0], pair[1]]).to_string());
-        shown.collect::<Vec<_>>().join(".")
-    };
+    let revision = |at: usize| revision_words(&info[at..at + REVISIONS_BYTES]);
     let half = |at: usize| format!("{:02X}{:02X}h", info[at + 1], info[at]);
     let [bus, device, function] = [0, 1, 2].map(|i| info[PCI_ADDRESS + i]);
     let lines = [
@@ -85,6 +81,16 @@ pub fn controller_lines(info: &[u8]) -> Vec<(String, String)> {
     ];
     lines.map(|(name, words)| (name.to_string(), words)).into()
 }
+
+/// Revisions of 16 bits each as a console shows them: `1.26.0.0`, major, minor, build and release.
+pub fn revision_words(revisions: &[u8]) -> String {
+    let numbers = revisions.chunks_exact(2);
+    let shown = numbers.map(|pair| u16::from_le_bytes([pair[0], pair[1]]).to_string());
+    shown.collect::<Vec<_>>().join(".")
+}
+
+/// The bytes of revisions.
+pub const REVISIONS_BYTES: usize = 8;
 
 /// The line of a front page that a status gives.
 pub fn status_line(info: &[u8]) -> (String, String) {

@@ -11,7 +11,7 @@ mod warnings;
 
 pub use describe::describe;
 pub use fields::{CONNECTOR, CONTROLLER, DRIVER, PHY, ROW, STATUS};
-pub use front::{connector_words, controller_lines, status_line};
+pub use front::{connector_words, controller_lines, revision_words, status_line, REVISIONS_BYTES};
 pub use parse::parse;
 pub use phy::{entity_words, phy_value};
 pub use upgrade::{is_old, upgrade};

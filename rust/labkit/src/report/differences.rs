@@ -3,7 +3,7 @@
 
 use crate::adapter::{phy_value, CONNECTOR, CONNECTOR_BYTES, ENTITY_BYTES, PHY};
 use crate::field::{Field, Kind};
-use crate::session::{layout, Header, STP_PASSTHRU};
+use crate::session::{layout, Header, FIRMWARE_DOWNLOAD, STP_PASSTHRU};
 use crate::value::show_bytes;
 
 /// A part in which runs differ, and its value in each.
@@ -74,6 +74,7 @@ impl Finder<'_> {
         }
         let rest = match control {
             STP_PASSTHRU => "data",
+            FIRMWARE_DOWNLOAD => "image",
             _ => "bytes behind the structure",
         };
         self.bytes(rest, &parts(&bodies, layout.size, bodies[0].len()));

@@ -3,7 +3,10 @@
 use crate::adapter::{connector_words, entity_words, CONNECTOR_BYTES, ENTITY_BYTES, MOST_PHYS};
 use crate::field::Field;
 use crate::names;
-use crate::session::{layout, Header, STP_PASSTHRU};
+use crate::session::{
+    image_words, layout, split_image, Header, DOWNLOAD_SEVERITY, DOWNLOAD_STATUS,
+    FIRMWARE_DOWNLOAD, STP_PASSTHRU,
+};
 use crate::value::{show_bytes, show_code};
 
 /// The reply to a request of that header in words, or why the two do not fit.
@@ -34,11 +37,27 @@ pub fn reply(header: Header, request: &[u8], reply: &[u8]) -> Result<String, Str
     for field in layout.fields {
         text.push_str(&shown(field, sent, got, code == 0));
     }
-    if control == STP_PASSTHRU {
-        let (before, data) = (&sent[layout.size..], &got[layout.size..]);
-        text.push_str(&row("data", &show_bytes(data), before != data));
-    }
+    let (before, data) = (&sent[layout.size..], &got[layout.size..]);
+    text.push_str(&match control {
+        STP_PASSTHRU => row("data", &show_bytes(data), before != data),
+        FIRMWARE_DOWNLOAD => download(before, got),
+        _ => String::new(),
+    });
     Ok(text)
+}
+
+/// What stands behind the structure of a code 4, where that was these bytes: its image, and bytes that are none.
+fn download(before: &[u8], got: &[u8]) -> String {
+    let (image, rest) = split_image(got);
+    let (image_before, rest_before) = before.split_at(image.len());
+    let mut text = String::new();
+    if !image.is_empty() {
+        text.push_str(&row("image", &image_words(image), image_before != image));
+    }
+    if !rest.is_empty() {
+        text.push_str(&row("data", &show_bytes(rest), rest_before != rest));
+    }
+    text
 }
 
 /// The request's name and control code.
@@ -69,6 +88,10 @@ fn shown(field: &Field, sent: &[u8], got: &[u8], success: bool) -> String {
             phys(before, part, CONNECTOR_BYTES, count, connector_words) + &rest
         }
         _ if success => row(field.name, &meaning(field, got), before != part),
+        // a refusal leaves them, so that their names would say what is not so
+        _ if [DOWNLOAD_STATUS, DOWNLOAD_SEVERITY].contains(field) && before == part => {
+            row(field.name, &format!("{}, as sent", field.get(got)), false)
+        }
         _ => row(field.name, &field.show(got), before != part),
     }
 }

@@ -1,7 +1,7 @@
 //! A request in a few words, for one column of a table.
 
 use crate::names;
-use crate::session::{layout, Header, Request, STP_PASSTHRU};
+use crate::session::{firmware_words, layout, Header, Request, FIRMWARE_DOWNLOAD, STP_PASSTHRU};
 use crate::value::{show_bytes, show_code};
 
 /// The request's name and the fields that say what it asks for; `linux` before it if it has that header.
@@ -46,6 +46,7 @@ fn named(name: &str, control: u32, body: &[u8]) -> String {
     }
     let byte = |at: usize| u32::from(body[at]);
     match control {
+        FIRMWARE_DOWNLOAD => format!("{name}: {}", firmware_words(body)),
         21 => format!("{name} phy {}{}", byte(0), changes(body)),
         22 => format!("{name} phy {}{}", byte(0), reset(body)),
         STP_PASSTHRU => format!("{name} {}: {}{}", selected(body), command(body), rate(body)),
@@ -148,6 +149,42 @@ mod tests {
                 "get-scsi-address 5000C50000000001",
             ),
             ("get-device-address target=3", "get-device-address 0/0/3/0"),
+            (
+                "firmware-download validate major=2 minor=1 release=7 blocks=2",
+                "firmware-download: validate 2.1.0.7, 2 blocks",
+            ),
+            (
+                "firmware-download validate major=2 blocks=3 damage=2",
+                "firmware-download: validate 2.0.0.0, 3 blocks, damaged",
+            ),
+            (
+                "firmware-download validate major=2 flags=5",
+                "firmware-download: validate 2.0.0.0, 1 block",
+            ),
+            (
+                "firmware-download validate buffer-length=700 major=2",
+                "firmware-download: validate, 700 bytes",
+            ),
+            (
+                "firmware-download validate data=5A*7",
+                "firmware-download: validate, 7 bytes",
+            ),
+            (
+                "firmware-download flags=validate",
+                "firmware-download: validate, 0 bytes",
+            ),
+            (
+                "firmware-download commit flags=2",
+                "firmware-download: commit",
+            ),
+            (
+                "firmware-download validate flags=soft-reset blocks=2",
+                "firmware-download: commit, 2 blocks",
+            ),
+            (
+                "firmware-download commit buffer=71",
+                "firmware-download, cut off",
+            ),
             ("get-link-errors buffer=47", "get-link-errors, cut off"),
             ("request control=99", "control code 99"),
             ("raw 0102", "2 bytes, no header"),
@@ -167,6 +204,14 @@ mod tests {
             (
                 "linux get-link-errors buffer=39",
                 "linux get-link-errors, cut off",
+            ),
+            (
+                "linux firmware-download validate release=1 blocks=32",
+                "linux firmware-download: validate 0.0.0.1, 32 blocks",
+            ),
+            (
+                "linux firmware-download commit",
+                "linux firmware-download: commit",
             ),
             ("linux request control=99", "linux control code 99"),
             (

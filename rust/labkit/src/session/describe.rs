@@ -1,8 +1,9 @@
 //! The description of a session. It makes the same bytes again, whatever they are: a request that its named fields do not say is
 //! given as `raw`.
 
+use super::firmware;
 use super::form::LINUX;
-use super::layout::{layout, STP_PASSTHRU};
+use super::layout::{layout, FIRMWARE_DOWNLOAD, STP_PASSTHRU};
 use super::request::{body, UNNAMED};
 use super::{Form, Header, Request, Session};
 use crate::field::differences;
@@ -59,6 +60,41 @@ fn makes(line: &str, request: &Request) -> bool {
     made.is_ok_and(|session| Form::Both.split(&session).requests == [*request])
 }
 
+/// How a body is described.
+pub struct Described {
+    /// A word behind the name.
+    pub first: Option<&'static str>,
+    /// The body of the line if no field is named.
+    pub sound: Vec<u8>,
+    /// The words behind the fields.
+    pub data: Vec<String>,
+}
+
+/// The description of a body that has its whole structure.
+fn described(control: u32, given: &[u8]) -> Described {
+    let layout = layout(control);
+    let data = &given[layout.size..];
+    let (sound, data) = match control {
+        FIRMWARE_DOWNLOAD => return firmware::described(given),
+        STP_PASSTHRU => (body(control, data), word("data", data)),
+        _ if !layout.fields.is_empty() => (body(control, &[]), None),
+        _ => {
+            let zeros = data.is_empty() && given.iter().all(|b| *b == 0);
+            (given.to_vec(), word("body", given).filter(|_| !zeros))
+        }
+    };
+    Described {
+        first: None,
+        sound,
+        data: Vec::from_iter(data),
+    }
+}
+
+/// A word that gives bytes, if there are any.
+pub fn word(name: &str, bytes: &[u8]) -> Option<String> {
+    (!bytes.is_empty()).then(|| format!("{name}={}", show_bytes(bytes)))
+}
+
 /// The line by name and fields; a buffer that is cut is shown as if zeros followed.
 fn by_fields(request: &Request) -> Option<String> {
     let Request { header, buffer } = *request;
@@ -67,29 +103,17 @@ fn by_fields(request: &Request) -> Option<String> {
     let named = names::control_name(control);
     let mut given = request.body()?.to_vec();
     given.resize(given.len().max(layout.size), 0);
-    let data = match control {
-        STP_PASSTHRU => &given[layout.size..],
-        _ => &[],
-    };
-    let mut sound = body(control, data);
-    if layout.fields.is_empty() {
-        sound = given.clone();
-    }
+    let Described { first, sound, data } = described(control, &given);
     let code = named.map_or(0, |_| control);
     let mut words = vec![first_words(named.unwrap_or(UNNAMED), header, code)];
+    words.extend(first.map(str::to_string));
     words.extend(differences(
         buffer,
         &header.sound(code, &given[..sound.len()]),
         header.fields(),
     ));
     words.extend(differences(&given, &sound, layout.fields));
-    let zeros = given.iter().all(|b| *b == 0) && given.len() == layout.size;
-    if layout.fields.is_empty() && !zeros {
-        words.push(format!("body={}", show_bytes(&given)));
-    }
-    if !data.is_empty() {
-        words.push(format!("data={}", show_bytes(data)));
-    }
+    words.extend(data);
     if buffer.len() != header.size() + sound.len() {
         words.push(format!("buffer={}", buffer.len()));
     }
@@ -145,7 +169,14 @@ get-cntlr-config slot=unknown class=hba bus=pci serial=\"L4\" flags=sas-hba+fwd-
 get-cntlr-status status=offline offline-reason=255 reserved=FF*28
 get-connector-info references=01*1152
 phy-control
-firmware-download body=FF+00*43
+firmware-download commit
+firmware-download commit buffer-length=255 flags=soft-reset+80000000h status=reject severity=fatal
+firmware-download flags=validate
+firmware-download validate
+firmware-download validate major=2 minor=1 build=65535 release=7 blocks=32 fill=5Ah
+firmware-download validate length=1067 buffer-length=512 flags=validate+hard-reset blocks=2 damage=0+1
+firmware-download validate flags=0 reserved=01*32 major=1
+firmware-download flags=validate data=5A*700
 request control=99
 request control=99 body=00*9
 request signature=\"CSMIALL\" control=99 length=7 body=0102
@@ -164,7 +195,10 @@ linux get-sata-signature phy=3 buffer=22
 linux get-cntlr-config return-code=1 bus=pcmcia
 linux get-cntlr-status status=good
 linux get-connector-info references=00*1151+FF
-linux firmware-download body=FF+00*43
+linux firmware-download commit
+linux firmware-download commit direction=0 buffer-length=255
+linux firmware-download validate major=2 blocks=2 fill=5Ah damage=1
+linux firmware-download flags=validate data=00*513
 linux request
 linux request control=99
 linux request control=CC770014h body=00*2052
@@ -194,6 +228,9 @@ linux raw
             "get-scsi-address",
             "get-device-address",
             "stp-passthru data=00*3",
+            "firmware-download commit",
+            "firmware-download validate major=1 fill=5Ah",
+            "firmware-download data=00*3",
             "get-raid-info",
         ];
         for name in names {

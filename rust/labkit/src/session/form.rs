@@ -1,9 +1,11 @@
 //! The two forms of a session: what stands before each request, and where a session ends.
 
-use super::{describe, parse, Header, Request, Session};
+use super::parse::{self, Source};
+use super::{describe, Header, Request, Session};
 use crate::text::lines;
 use crate::value::MOST_BYTES;
 use crate::Fault;
+use std::path::Path;
 
 /// How a session stands in a file.
 #[derive(Debug, Clone, Copy, PartialEq, Eq)]
@@ -31,9 +33,16 @@ impl Form {
         Ok(if linux { Form::Both } else { Form::Program })
     }
 
-    /// The session that a description makes.
+    /// The session that a description makes, which names no file.
     pub fn parse(self, text: &str) -> Result<Vec<u8>, Fault> {
-        parse::parse(self, text)
+        let (form, folder) = (self, None);
+        parse::parse(Source { form, folder }, text)
+    }
+
+    /// The session that a description makes whose files stand in a folder.
+    pub fn parse_in(self, folder: &Path, text: &str) -> Result<Vec<u8>, Fault> {
+        let (form, folder) = (self, Some(folder));
+        parse::parse(Source { form, folder }, text)
     }
 
     /// The description of a session.

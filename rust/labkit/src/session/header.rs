@@ -1,6 +1,6 @@
 //! The two headers that a request may have: where their fields stand, and what a sound one holds.
 
-use super::layout::{layout, ATA_COMMAND, SET_PHY_INFO, STP_PASSTHRU};
+use super::layout::{layout, ATA_COMMAND, FIRMWARE_DOWNLOAD, SET_PHY_INFO, STP_PASSTHRU};
 use crate::field::{bytes, field, number, Field, Kind};
 
 /// The header of a request.
@@ -120,11 +120,11 @@ fn linux(control: u32, body: &[u8]) -> [u8; LINUX_SIZE] {
     header
 }
 
-/// The Direction that a console gives: DATA_WRITE with a change of a phy and with a write of sectors, else DATA_READ.
+/// The Direction that a console gives: DATA_WRITE with firmware, with a change of a phy and with a write of sectors, else DATA_READ.
 fn direction(control: u32, body: &[u8]) -> u8 {
     let command = body.get(ATA_COMMAND).copied();
     match control {
-        SET_PHY_INFO => DATA_WRITE,
+        FIRMWARE_DOWNLOAD | SET_PHY_INFO => DATA_WRITE,
         STP_PASSTHRU if command == Some(WRITE_SECTORS) => DATA_WRITE,
         _ => DATA_READ,
     }
@@ -147,13 +147,14 @@ mod tests {
         }
     }
 
-    /// Signature and Length of the codes that a front page asks for; Linux's Length counts its header.
+    /// Signature and Length of the codes that a front page asks for, and of firmware without an image; Linux's Length counts its header.
     #[test]
-    fn sound_headers_of_a_front_page() {
-        for (control, signature, size) in [
-            (2, b"CSMIALL\0", 176),
-            (3, b"CSMIALL\0", 36),
-            (30, b"CSMISAS\0", 1152),
+    fn sound_headers_of_the_controllers_codes() {
+        for (control, signature, size, way) in [
+            (2, b"CSMIALL\0", 176, DATA_READ),
+            (3, b"CSMIALL\0", 36, DATA_READ),
+            (4, b"CSMIALL\0", 44, DATA_WRITE),
+            (30, b"CSMISAS\0", 1152, DATA_READ),
         ] {
             let body = vec![0; layout(control).size];
             let first = Header::Srb.sound(control, &body);
@@ -162,7 +163,7 @@ mod tests {
             assert_eq!(SRB_LENGTH.get(&first), size);
             let linux = Header::Linux { control }.sound(control, &body);
             assert_eq!(LINUX_LENGTH.get(&linux), 20 + size);
-            assert_eq!(DIRECTION.get(&linux), u32::from(DATA_READ));
+            assert_eq!(DIRECTION.get(&linux), u32::from(way));
         }
     }
 
@@ -181,6 +182,7 @@ mod tests {
         let mut write = [0; 136];
         write[18] = 0x30;
         assert_eq!(direction(21, &[0; 8]), DATA_WRITE);
+        assert_eq!(direction(4, &[0; 44]), DATA_WRITE);
         assert_eq!(direction(25, &write), DATA_WRITE);
         assert_eq!(direction(25, &[0; 136]), DATA_READ);
         assert_eq!(direction(22, &write), DATA_READ);

@@ -5,13 +5,14 @@ use crate::adapter::{
     CONNECTOR_BYTES, CONTROLLER, CONTROLLER_BYTES, DRIVER, DRIVER_BYTES, ENTITY_BYTES, MOST_PHYS,
     ROW, STATUS, STATUS_BYTES,
 };
-use crate::field::{byte, bytes, code, field, number, Field, Kind};
+use crate::field::{bits, byte, bytes, code, field, named, number, Field, Kind};
+use crate::names::{DOWNLOADS, DOWNLOAD_STATUSES, SEVERITIES};
 
 /// The structure of one control code.
 #[derive(Debug, Clone, Copy)]
 pub struct Layout {
     pub signature: &'static str,
-    /// Its size without the header, and of code 25 without bDataBuffer.
+    /// Its size without the header, and of codes 4 and 25 without bDataBuffer.
     pub size: usize,
     pub fields: &'static [Field],
 }
@@ -21,9 +22,15 @@ pub const DRIVER_INFO: u32 = 1;
 pub const CNTLR_CONFIG: u32 = 2;
 pub const CNTLR_STATUS: u32 = 3;
 pub const CONNECTOR_INFO: u32 = 30;
+/// The control code of firmware, whose structure ends with a data buffer; uBufferLength, uDownloadFlags, usStatus and usSeverity.
+pub const FIRMWARE_DOWNLOAD: u32 = 4;
+pub const DOWNLOAD_LENGTH: Field = number("buffer-length", 0, 4);
+pub const DOWNLOAD_FLAGS: Field = bits("flags", 4, 4, DOWNLOADS);
+pub const DOWNLOAD_STATUS: Field = named("status", 40, 2, DOWNLOAD_STATUSES);
+pub const DOWNLOAD_SEVERITY: Field = named("severity", 42, 2, SEVERITIES);
 /// The control code that changes a phy.
 pub const SET_PHY_INFO: u32 = 21;
-/// The control code whose structure ends with a data buffer, where the command stands in it, and uDataLength.
+/// The other control code whose structure ends with a data buffer, where the command stands in it, and uDataLength.
 pub const STP_PASSTHRU: u32 = 25;
 pub const ATA_COMMAND: usize = 18;
 pub const DATA_LENGTH: Field = number("data-length", 40, 4);
@@ -34,7 +41,7 @@ pub fn layout(control: u32) -> Layout {
         DRIVER_INFO => ("CSMIALL", DRIVER_BYTES, &DRIVER),
         CNTLR_CONFIG => ("CSMIALL", CONTROLLER_BYTES, &CONTROLLER),
         CNTLR_STATUS => ("CSMIALL", STATUS_BYTES, &STATUS),
-        4 => ("CSMIALL", 44, &[]),
+        FIRMWARE_DOWNLOAD => ("CSMIALL", 44, &FIRMWARE),
         10 | 11 => ("CSMIARY", 0, &[]),
         20 => ("CSMISAS", 2052, &PHY_INFO),
         SET_PHY_INFO => ("CSMISAS", 8, &PHY_CHANGE),
@@ -54,6 +61,14 @@ pub fn layout(control: u32) -> Layout {
         fields,
     }
 }
+
+const FIRMWARE: [Field; 5] = [
+    DOWNLOAD_LENGTH,
+    DOWNLOAD_FLAGS,
+    bytes("reserved", 8, 32),
+    DOWNLOAD_STATUS,
+    DOWNLOAD_SEVERITY,
+];
 
 const PHY_INFO: [Field; 3] = [
     byte("phys", 0),

@@ -2,17 +2,22 @@
 //! Linux header (4.2.3.1), and its body is the structure of its control code.
 
 mod describe;
+mod firmware;
 mod form;
 mod header;
+mod image;
 mod layout;
 mod parse;
 mod request;
 
 pub use describe::describe_request;
+pub use firmware::{in_words as firmware_words, split as split_image};
 pub use form::{Form, MOST_REQUEST};
 pub use header::{srb, Header, DIRECTION};
+pub use image::in_words as image_words;
 pub use layout::{
-    layout, Layout, CNTLR_CONFIG, CNTLR_STATUS, CONNECTOR_INFO, DRIVER_INFO, STP_PASSTHRU,
+    layout, Layout, CNTLR_CONFIG, CNTLR_STATUS, CONNECTOR_INFO, DOWNLOAD_SEVERITY, DOWNLOAD_STATUS,
+    DRIVER_INFO, FIRMWARE_DOWNLOAD, STP_PASSTHRU,
 };
 
 use crate::Fault;

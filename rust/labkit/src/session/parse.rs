@@ -6,6 +6,14 @@ use super::request::{self, bytes};
 use super::{Form, Header, Request};
 use crate::text::{lines, Line};
 use crate::Fault;
+use std::path::Path;
+
+/// Where a description is read: in a form, and in the folder of the files that it names.
+#[derive(Clone, Copy)]
+pub struct Source<'a> {
+    pub form: Form,
+    pub folder: Option<&'a Path>,
+}
 
 /// What a line says.
 enum Said {
@@ -13,8 +21,8 @@ enum Said {
     Tail(Vec<u8>),
 }
 
-/// The session that a description makes in a form.
-pub fn parse(form: Form, text: &str) -> Result<Vec<u8>, Fault> {
+/// The session that a description makes.
+pub fn parse(source: Source, text: &str) -> Result<Vec<u8>, Fault> {
     let mut session = Vec::new();
     let mut ended = false;
     for mut line in lines(text)? {
@@ -23,10 +31,10 @@ pub fn parse(form: Form, text: &str) -> Result<Vec<u8>, Fault> {
         }
         let number = line.number;
         let refused = |reason| Fault::new(number, reason);
-        match said(form, &mut line)? {
+        match said(source, &mut line)? {
             Said::Request(header, buffer) => {
                 let buffer = &buffer;
-                let added = form.add(&mut session, &Request { header, buffer });
+                let added = source.form.add(&mut session, &Request { header, buffer });
                 added.map_err(refused)?;
             }
             Said::Tail(bytes) => {
@@ -39,8 +47,8 @@ pub fn parse(form: Form, text: &str) -> Result<Vec<u8>, Fault> {
     Ok(session)
 }
 
-fn said(form: Form, line: &mut Line) -> Result<Said, Fault> {
-    let (name, linux) = name(form, line)?;
+fn said(source: Source, line: &mut Line) -> Result<Said, Fault> {
+    let (name, linux) = name(source.form, line)?;
     match name.as_str() {
         "tail" => Ok(Said::Tail(all_bytes(line)?)),
         "raw" => {
@@ -48,7 +56,7 @@ fn said(form: Form, line: &mut Line) -> Result<Said, Fault> {
             Ok(Said::Request(header, all_bytes(line)?))
         }
         name => {
-            let (header, buffer) = request::from_line(form, name, linux, line)?;
+            let (header, buffer) = request::from_line(source, name, linux, line)?;
             Ok(Said::Request(header, buffer))
         }
     }
@@ -82,11 +90,11 @@ mod tests {
     use super::*;
 
     fn program(text: &str) -> Result<Vec<u8>, Fault> {
-        parse(Form::Program, text)
+        Form::Program.parse(text)
     }
 
     fn both(text: &str) -> Result<Vec<u8>, Fault> {
-        parse(Form::Both, text)
+        Form::Both.parse(text)
     }
 
     /// The control code and the buffer of a line with `linux`.

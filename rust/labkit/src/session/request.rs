@@ -1,7 +1,9 @@
 //! One request made from its line.
 
-use super::layout::{layout, DATA_LENGTH, STP_PASSTHRU};
-use super::{Form, Header};
+use super::firmware;
+use super::layout::{layout, DATA_LENGTH, FIRMWARE_DOWNLOAD, STP_PASSTHRU};
+use super::parse::Source;
+use super::Header;
 use crate::field::fill;
 use crate::names;
 use crate::text::{Line, Word};
@@ -27,7 +29,7 @@ pub fn body(control: u32, data: &[u8]) -> Vec<u8> {
 
 /// The header and the bytes of a request that a line describes by its name and fields.
 pub fn from_line(
-    form: Form,
+    source: Source,
     name: &str,
     linux: bool,
     line: &mut Line,
@@ -37,13 +39,13 @@ pub fn from_line(
         name => names::control_code(name)
             .ok_or_else(|| Fault::new(line.number, format!("'{name}' is no request")))?,
     };
-    let mut body = body_from_line(control, line)?;
+    let mut body = body_from_line(source, control, line)?;
     let header = header(linux, control, line)?;
     let mut buffer = header.sound(control, &body);
     fill(&mut buffer, header.fields(), line)?;
     buffer.append(&mut body);
     if let Some(word) = line.take("buffer")? {
-        buffer.resize(number(&word, form.most() as u64)? as usize, 0);
+        buffer.resize(number(&word, source.form.most() as u64)? as usize, 0);
     }
     Ok((header, buffer))
 }
@@ -60,13 +62,13 @@ pub fn header(linux: bool, control: u32, line: &mut Line) -> Result<Header, Faul
     Ok(Header::Linux { control })
 }
 
-fn body_from_line(control: u32, line: &mut Line) -> Result<Vec<u8>, Fault> {
+fn body_from_line(source: Source, control: u32, line: &mut Line) -> Result<Vec<u8>, Fault> {
     let layout = layout(control);
-    let data = match control {
-        STP_PASSTHRU => taken(line, "data")?,
-        _ => Vec::new(),
+    let mut whole = match control {
+        FIRMWARE_DOWNLOAD => firmware::from_line(line, source.folder)?,
+        STP_PASSTHRU => body(control, &taken(line, "data")?),
+        _ => body(control, &[]),
     };
-    let mut whole = body(control, &data);
     if layout.fields.is_empty() {
         let given = taken(line, "body")?;
         whole.resize(whole.len().max(given.len()), 0);
@@ -92,6 +94,7 @@ pub fn bytes(word: &Word) -> Result<Vec<u8>, Fault> {
     value::bytes(&word.value).map_err(|reason| word.fault(reason))
 }
 
-fn number(word: &Word, most: u64) -> Result<u64, Fault> {
+/// The number of a word.
+pub fn number(word: &Word, most: u64) -> Result<u64, Fault> {
     value::number(&word.value, most).map_err(|reason| word.fault(reason))
 }

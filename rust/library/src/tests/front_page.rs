@@ -6,7 +6,7 @@ use super::*;
 const PAGES: [(u32, &[u8; 8], usize, usize); 3] = [
     (2, b"CSMIALL\0", CONTROLLER, CONTROLLER_SIZE),
     (3, b"CSMIALL\0", STATUS, STATUS_SIZE),
-    (30, b"CSMISAS\0", CONNECTOR, STATE_SIZE - CONNECTOR),
+    (30, b"CSMISAS\0", CONNECTOR, STAGED - CONNECTOR),
 ];
 
 /// The reply: its return code, and the part of the state where it is 0.
@@ -23,18 +23,18 @@ fn replied(sent: &[u8], code_at: usize, code: u32, body_at: usize, shown: &[u8])
 fn a_reply_is_a_part_of_the_state() {
     for level in 0..=3 {
         for (control, signature, at, size) in PAGES {
-            let (mut lent, mut medium) = (state(level), [0; DISK]);
+            let (mut lent, mut medium, mut stage) = (state(level), [0; DISK], stage());
             let shown = &state(level)[at..at + size];
             let sent = first(control, signature, &vec![OTHER; size]);
             let mut buffer = sent.clone();
-            assert_eq!(request(&mut lent, &mut medium, &mut buffer), 0);
+            assert_eq!(request(&mut lent, &mut medium, &mut stage, &mut buffer), 0);
             let code = if level == 0 { 4 } else { 0 };
             let expected = replied(&sent, header::RETURN_CODE, code, header::SIZE, shown);
             assert_eq!(buffer, expected, "code {control}, level {level}");
 
             let sent = under_linux(&vec![OTHER; size]);
             let mut buffer = sent.clone();
-            let number = request_linux(&mut lent, &mut medium, control, &mut buffer);
+            let number = request_linux(&mut lent, &mut medium, &mut stage, control, &mut buffer);
             assert_eq!(number, 0);
             let expected = replied(
                 &sent,
@@ -44,7 +44,7 @@ fn a_reply_is_a_part_of_the_state() {
                 shown,
             );
             assert_eq!(buffer, expected, "code {control}, level {level}");
-            assert!(lent == state(level) && medium == [0; DISK]);
+            assert!(lent == state(level) && medium == [0; DISK] && stage == self::stage());
         }
     }
 }
@@ -52,12 +52,13 @@ fn a_reply_is_a_part_of_the_state() {
 #[test]
 fn another_pinout_and_a_second_connector_are_107() {
     let connector = CONNECTOR + CONNECTOR_SIZE;
-    for at in [CONNECTOR + CONNECTOR_PINOUT + 3, connector, STATE_SIZE - 1] {
-        let mut lent = state(3);
+    for at in [CONNECTOR + CONNECTOR_PINOUT + 3, connector, STAGED - 1] {
+        let (mut lent, mut medium, mut stage) = (state(3), [0; DISK], stage());
         lent[at] ^= 1;
         let before = lent;
-        assert_eq!(request(&mut lent, &mut [0; DISK], &mut []), 107);
-        assert_eq!(request_linux(&mut lent, &mut [0; DISK], 2, &mut []), 107);
+        assert_eq!(request(&mut lent, &mut medium, &mut stage, &mut []), 107);
+        let number = request_linux(&mut lent, &mut medium, &mut stage, 2, &mut []);
+        assert_eq!(number, 107);
         assert_eq!(lent, before);
     }
 }

@@ -22,36 +22,49 @@ fn framed(header: u32, control: u32, request: &[u8]) -> Vec<u8> {
 
 /// A run at level None over a session; the number handled, the session and the record afterwards.
 fn ran(session: &[u8]) -> (usize, Vec<u8>, [u8; 3 * record::SIZE]) {
-    let (mut session, mut medium) = (session.to_vec(), [0; DISK]);
+    let (mut session, mut medium, mut stage) = (session.to_vec(), [0; DISK], stage());
     let mut record = [OTHER; 3 * record::SIZE];
     let text = b"CSMI=None;";
-    let handled = run_both(text, &file(), &mut medium, &mut session, &mut record);
+    let handled = run_both(
+        text,
+        &file(),
+        &mut medium,
+        &mut stage,
+        &mut session,
+        &mut record,
+    );
+    assert_eq!(stage, self::stage());
     (handled, session, record)
 }
 
 #[test]
 fn a_linux_request_is_served_at_every_level() {
     for level in 0..=3 {
-        let (mut lent, mut medium, mut buffer) = (state(level), [0; DISK], set_phy_info());
-        let code = control::SET_PHY_INFO;
-        assert_eq!(request_linux(&mut lent, &mut medium, code, &mut buffer), 0);
+        let (mut lent, mut medium, mut stage) = (state(level), [0; DISK], stage());
+        let mut buffer = set_phy_info();
+        let number = request_linux(&mut lent, &mut medium, &mut stage, 21, &mut buffer);
+        assert_eq!((number, stage), (0, self::stage()));
         assert_eq!((buffer, lent), (replied(0), disabled(level)));
     }
 }
 
 #[test]
 fn the_answers_to_a_linux_request_in_their_order() {
-    let (mut lent, mut medium) = (state(4), [0; DISK]);
-    assert_eq!(request_linux(&mut lent, &mut [], 0, &mut []), 107);
+    let (mut lent, mut medium, mut stage) = (state(4), [0; DISK], stage());
+    assert_eq!(request_linux(&mut lent, &mut [], &mut [], 0, &mut []), 107);
     lent = state(0);
-    assert_eq!(request_linux(&mut lent, &mut medium[1..], 0, &mut []), 106);
+    let number = request_linux(&mut lent, &mut medium[1..], &mut stage, 0, &mut []);
+    assert_eq!(number, 106);
+    let number = request_linux(&mut lent, &mut medium, &mut stage[1..], 0, &mut []);
+    assert_eq!(number, 106);
     let mut short = [OTHER; linux_header::SIZE - 1];
-    assert_eq!(request_linux(&mut lent, &mut medium, 0, &mut short), 100);
+    let number = request_linux(&mut lent, &mut medium, &mut stage, 0, &mut short);
+    assert_eq!(number, 100);
     let mut code_of = |control, change: fn(&mut [u8])| {
         let mut buffer = set_phy_info();
         change(&mut buffer);
         assert_eq!(
-            request_linux(&mut lent, &mut medium, control, &mut buffer),
+            request_linux(&mut lent, &mut medium, &mut stage, control, &mut buffer),
             0
         );
         assert_eq!(lent, state(0));
@@ -67,8 +80,9 @@ fn the_answers_to_a_linux_request_in_their_order() {
 fn a_state_of_another_length_is_107_to_a_linux_request() {
     for length in [0, 1, CONTROLLER, STATE_SIZE - 1, STATE_SIZE + 1] {
         let mut lent = vec![OTHER; length];
-        let (mut medium, mut buffer) = ([0; DISK], set_phy_info());
-        assert_eq!(request_linux(&mut lent, &mut medium, 21, &mut buffer), 107);
+        let (mut medium, mut stage, mut buffer) = ([0; DISK], stage(), set_phy_info());
+        let number = request_linux(&mut lent, &mut medium, &mut stage, 21, &mut buffer);
+        assert_eq!(number, 107);
         assert_eq!((lent, buffer), (vec![OTHER; length], set_phy_info()));
     }
 }
@@ -132,7 +146,8 @@ fn after_a_refused_opening_both_headers_get_107() {
     ];
     let session = requests.concat();
     let (mut after, mut record) = (session.clone(), [OTHER; 2 * record::SIZE]);
-    assert_eq!(run_both(&[], &[], &mut [], &mut after, &mut record), 2);
+    let handled = run_both(&[], &[], &mut [], &mut [], &mut after, &mut record);
+    assert_eq!(handled, 2);
     let line = [107, 0, 0, 0, 0xFF, 0xFF, 0xFF, 0xFF];
     assert_eq!(
         (after, record),

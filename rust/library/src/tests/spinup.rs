@@ -61,8 +61,10 @@ fn a_wrong_hold_in_a_state_is_107() {
     phy(&mut wrong[0])[at_phy::SPINUP_HOLD] = 1;
     for mut lent in wrong {
         let before = lent;
-        assert_eq!(request(&mut lent, &mut [0; DISK], &mut []), 107);
-        assert_eq!(request_linux(&mut lent, &mut [0; DISK], 20, &mut []), 107);
+        let (mut medium, mut stage) = ([0; DISK], stage());
+        assert_eq!(request(&mut lent, &mut medium, &mut stage, &mut []), 107);
+        let number = request_linux(&mut lent, &mut medium, &mut stage, 20, &mut []);
+        assert_eq!(number, 107);
         assert_eq!(lent, before);
     }
 }
@@ -75,18 +77,19 @@ fn a_granted_code_21_clears_the_hold() {
         let after = with_disk(level, 0, left);
         // the phy enabled or disabled, and nothing else changed
         let body = [0, negotiated, 0, 0, 0, 0, 0, 0];
-        let mut lent = before;
+        let (mut lent, mut medium, mut stage) = (before, [0; DISK], stage());
         let mut buffer = first(control::SET_PHY_INFO, b"CSMISAS\0", &body);
         let mut reply = buffer.clone();
         let (code, expected) = if level == 0 { (4, before) } else { (0, after) };
         put(&mut reply, header::RETURN_CODE, code);
-        assert_eq!(request(&mut lent, &mut [0; DISK], &mut buffer), 0);
+        assert_eq!(request(&mut lent, &mut medium, &mut stage, &mut buffer), 0);
         assert_eq!((buffer, lent), (reply, expected), "{level}, {negotiated}");
 
         let (mut lent, mut buffer) = (before, under_linux(&body));
         let mut reply = buffer.clone();
         put(&mut reply, linux_header::RETURN_CODE, 0);
-        assert_eq!(request_linux(&mut lent, &mut [0; DISK], 21, &mut buffer), 0);
+        let number = request_linux(&mut lent, &mut medium, &mut stage, 21, &mut buffer);
+        assert_eq!(number, 0);
         assert_eq!((buffer, lent), (reply, after), "{level}, {negotiated}");
     }
 }

@@ -79,11 +79,15 @@ fn the_bytes_lent_for_the_totals() {
 fn the_tally_of_a_run() {
     let mut session = [5, 0, 0, 0, 1, 2, 3, 4, 5, 0, 0, 0, 0];
     let mut lines = [0; 3 * record::SIZE];
-    let (text, mut medium) = (b"CSMI=Full;", [0; DISK]);
-    let handled = run(text, &file(), &mut medium, &mut session, &mut lines);
+    let (mut medium, mut stage) = ([0; DISK], stage());
+    let mut ran = |file: &[u8], lines: &mut [u8]| {
+        let text = b"CSMI=Full;";
+        run(text, file, &mut medium, &mut stage, &mut session, lines)
+    };
+    let handled = ran(&file(), &mut lines);
     assert_eq!(tallied(&lines[..handled * record::SIZE]), [2, 0, 0, 0, 2]);
     assert_eq!(tallied(&lines), [3, 1, 0, 0, 2]);
-    let handled = run(text, &[], &mut medium, &mut session, &mut lines);
+    let handled = ran(&[], &mut lines);
     assert_eq!(tallied(&lines[..handled * record::SIZE]), [2, 0, 0, 2, 0]);
 }
 

@@ -13,6 +13,16 @@ pub const SECTOR: usize = 512;
 pub const SECTORS: usize = 16;
 pub const DISK: usize = SECTOR * SECTORS;
 
+/// "An image is 1 to 32 blocks in the file's block form, revisions in the first eight bytes of
+/// block 0" (W-207).
+pub mod image {
+    pub const MAX_BLOCKS: usize = 32;
+    pub const REVISIONS: usize = 0;
+}
+
+/// "a lent stage of 16,384 bytes" (W-207): room for the largest image.
+pub const STAGE: usize = image::MAX_BLOCKS * file::BLOCK;
+
 /// A phy: in a state, and in its block of the file. The PHY_ENTITY is first.
 pub mod phy {
     pub const COUNTERS: usize = super::ENTITY;
@@ -66,7 +76,10 @@ pub mod state {
     pub const CONTROLLER_CONFIG: usize = row_at(super::MAX_ROWS);
     pub const CONTROLLER_STATUS: usize = CONTROLLER_CONFIG + super::CONTROLLER_CONFIG;
     pub const CONNECTORS: usize = CONTROLLER_STATUS + super::CONTROLLER_STATUS;
-    pub const SIZE: usize = connector_at(super::MAX_PHYS);
+    /// Whether an image is staged (W-207), and its revisions.
+    pub const STAGED: usize = connector_at(super::MAX_PHYS);
+    pub const STAGED_REVISIONS: usize = STAGED + 1;
+    pub const SIZE: usize = STAGED_REVISIONS + super::REVISIONS;
 
     /// Where phy n starts.
     pub const fn phy_at(n: usize) -> usize {

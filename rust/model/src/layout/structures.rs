@@ -11,6 +11,9 @@ pub const CONTROLLER_CONFIG: usize = 176;
 /// The controller's status (6.3.4.1): the structure of code 3.
 pub const CONTROLLER_STATUS: usize = 36;
 
+/// The revisions of a firmware: major, minor, build and release, 16 bits each.
+pub const REVISIONS: usize = 8;
+
 /// SRB_IO_CONTROL (4.1.3.1).
 pub mod header {
     pub const HEADER_LENGTH: usize = 0;
@@ -31,6 +34,22 @@ pub mod linux_header {
     pub const DIRECTION: usize = 16;
     pub const IGNORED: usize = 18;
     pub const SIZE: usize = 20;
+}
+
+/// The controller's configuration (6.2.4.3).
+pub mod controller_config {
+    /// "its first four revision fields" (W-207).
+    pub const FIRMWARE_REVISIONS: usize = 133;
+}
+
+/// Code 4: Information, bDataBuffer.
+pub mod firmware {
+    pub const BUFFER_LENGTH: usize = 0;
+    pub const FLAGS: usize = 4;
+    pub const STATUS: usize = 40;
+    pub const SEVERITY: usize = 42;
+    /// Where bDataBuffer starts: the structure's size without it.
+    pub const DATA: usize = 44;
 }
 
 /// Code 20: the phy count's word, and the phys.

@@ -4,7 +4,6 @@ use super::control::Control;
 use crate::bytes::u32_at;
 use crate::codes::{call, status};
 use crate::layout::header::{CONTROL_CODE, HEADER_LENGTH, LENGTH, SIGNATURE, SIZE, TIMEOUT};
-use crate::layout::stp;
 use crate::level::Level;
 
 /// A request that has passed "all before the level".
@@ -44,8 +43,8 @@ pub fn admit(buffer: &[u8]) -> Result<Admitted, Refusal> {
 }
 
 /// "Length at least the structure's size without header (for 25: without bDataBuffer, plus
-/// uDataLength) and 28 + Length inside the buffer". `body` is the buffer after the header, which
-/// `length` does not count.
+/// uDataLength) and 28 + Length inside the buffer"; for 4 as for 25. `body` is the buffer after the
+/// header, which `length` does not count.
 pub fn length_is_sound(control: Control, length: u32, body: &[u8]) -> bool {
     let Ok(length) = usize::try_from(length) else {
         return false;
@@ -53,6 +52,5 @@ pub fn length_is_sound(control: Control, length: u32, body: &[u8]) -> bool {
     if length < control.size() || length > body.len() {
         return false;
     }
-    control != Control::StpPassthrough
-        || u64::from(u32_at(body, stp::DATA_LENGTH)) <= (length - stp::DATA) as u64
+    u64::from(control.data_length(body)) <= (length - control.size()) as u64
 }

@@ -178,6 +178,21 @@ pub fn medium(p: u8) -> Vec<u8> {
         .collect()
 }
 
+/// A stage whose blocks differ.
+const STAGE: [u8; 16_384] = {
+    let mut stage = [0; 16_384];
+    let mut i = 0;
+    while i < stage.len() {
+        stage[i] = (i / 512 * 11 + i * 3 + 1) as u8;
+        i += 1;
+    }
+    stage
+};
+
+pub fn stage() -> Vec<u8> {
+    STAGE.to_vec()
+}
+
 /// The number of an opening at level Full.
 pub fn opening(file: &[u8], p: u8) -> u32 {
     open(FULL, file, &medium(p)).0
@@ -186,7 +201,7 @@ pub fn opening(file: &[u8], p: u8) -> u32 {
 /// A sound buffer of a code with this body.
 pub fn buffer(code: u32, body: &[u8]) -> Vec<u8> {
     let signature = match code {
-        1..=3 => b"CSMIALL\0",
+        1..=4 => b"CSMIALL\0",
         _ => b"CSMISAS\0",
     };
     [
@@ -206,14 +221,16 @@ pub fn return_code(buffer: &[u8]) -> u32 {
 }
 
 /// The return code of a request whose call's number is 0; only the code's bytes of the buffer
-/// change if it isn't 0, and neither state nor medium does.
-pub fn code_of(state: &mut State, medium: &mut [u8], buffer: &mut [u8]) -> u32 {
+/// change if it isn't 0, and neither state nor medium nor stage does.
+pub fn code_of(state: &mut State, medium: &mut [u8], stage: &mut [u8], buffer: &mut [u8]) -> u32 {
     let before = (state.clone(), medium.to_vec(), buffer.to_vec());
-    assert_eq!(request(state, medium, buffer), 0);
+    let stage_before = stage.to_vec();
+    assert_eq!(request(state, medium, stage, buffer), 0);
     let code = return_code(buffer);
     if code != 0 {
         assert_eq!(*state, before.0);
         assert_eq!(*medium, before.1);
+        assert_eq!(*stage, stage_before);
     }
     assert_eq!(buffer[..20], before.2[..20]);
     assert_eq!(buffer[24..28], before.2[24..28]);
@@ -230,7 +247,7 @@ pub fn answer(code: u32, body: &[u8]) -> u32 {
 
 pub fn answer_of(state: &mut State, buffer: &mut [u8]) -> u32 {
     let mut medium = medium(state.p);
-    code_of(state, &mut medium, buffer)
+    code_of(state, &mut medium, &mut stage(), buffer)
 }
 
 /// A command FIS to sectors, bit 6 of byte 7 set.

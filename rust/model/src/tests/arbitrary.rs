@@ -1,8 +1,9 @@
 //! Arbitrary inputs: no panic, and what holds of every call.
 
 use super::adapter::{
-    address, buffer, file, fis, hold, medium, passthrough, sample, sample_held, sealed,
+    address, buffer, file, fis, hold, medium, passthrough, sample, sample_held, sealed, stage,
 };
+use super::firmware;
 use crate::layout::file::BLOCK;
 use crate::{denied, fields, open, request, Phy, Row, State};
 
@@ -72,6 +73,7 @@ impl Numbers {
                 ]);
                 body
             }
+            4 => self.firmware(),
             20 => vec![self.byte(); 2052],
             1 => vec![self.byte(); 174],
             2 => vec![self.byte(); 176],
@@ -84,15 +86,37 @@ impl Numbers {
             }
         }
     }
+
+    /// A validation, of a damaged image too, or a commit, with any other flags.
+    fn firmware(&mut self) -> Vec<u8> {
+        let mut body = match self.below(3) {
+            0 => firmware::commit(),
+            n => {
+                let revisions = std::array::from_fn(|_| self.next() as u16);
+                let mut image = firmware::image(1 + self.below(3), revisions);
+                if n == 1 && self.below(2) == 0 {
+                    let at = self.below(image.len());
+                    image[at] ^= 1 << self.below(8);
+                }
+                firmware::validation(&image)
+            }
+        };
+        body[4] = body[4] & 1 | self.byte() & !1;
+        body[5..8].copy_from_slice(&self.array::<3>());
+        if self.below(8) == 0 {
+            body[4] ^= 1;
+        }
+        body
+    }
 }
 
 #[test]
 fn requests_keep_the_state_sound() {
     let mut numbers = Numbers::new(0x1234_5678_9ABC_DEF1);
-    let (mut state, mut disk) = (sample(), medium(5));
-    let (mut served, mut released) = (0, 0);
+    let (mut state, mut disk, mut lent) = (sample(), medium(5), stage());
+    let (mut served, mut released, mut staged, mut committed) = (0, 0, 0, 0);
     for _ in 0..60_000 {
-        let code = [1, 2, 3, 20, 21, 22, 24, 25, 26, 27, 28, 30][numbers.below(12)];
+        let code = [1, 2, 3, 4, 20, 21, 22, 24, 25, 26, 27, 28, 30][numbers.below(13)];
         let body = numbers.body(code);
         let mut sent = buffer(code, &body);
         if numbers.below(4) == 0 {
@@ -106,28 +130,36 @@ fn requests_keep_the_state_sound() {
         if numbers.below(8) == 0 {
             hold(&mut state.phys[[0, 3, 4][numbers.below(3)]]);
         }
-        let was_denied = denied(&state, &disk, &sent);
+        let was_denied = denied(&state, &disk, &lent, &sent);
         let before = (state.clone(), disk.clone(), sent.clone());
-        let number = request(&mut state, &mut disk, &mut sent);
+        let lent_before = lent.clone();
+        let number = request(&mut state, &mut disk, &mut lent, &mut sent);
         assert!(fields::state_is_sound(&state));
         if number != 0 {
             assert_eq!(number, 100);
             assert_eq!((&state, &disk, &sent), (&before.0, &before.1, &before.2));
+            assert_eq!(lent, lent_before);
             continue;
         }
         let code = super::adapter::return_code(&sent);
         assert_eq!(was_denied, code == 4);
         if code != 0 {
             assert_eq!((&state, &disk), (&before.0, &before.1));
+            assert_eq!(lent, lent_before);
             assert_eq!(sent[28..], before.2[28..]);
         } else {
             served += 1;
         }
         let held = |state: &State| state.phys.iter().filter(|phy| phy.spinup_hold == 1).count();
         released += held(&before.0) - held(&state);
+        // "the stage, which only a granted validation changes"
+        assert!(lent == lent_before || (sent[16], state.staged) == (4, 1));
+        staged += usize::from(lent != lent_before);
+        committed += usize::from(before.0.staged > state.staged);
     }
     assert!(served > 5_000, "{served}");
     assert!(released > 20, "{released}");
+    assert!(staged > 200 && committed > 100, "{staged} {committed}");
 }
 
 #[test]
@@ -144,11 +176,13 @@ fn any_state_and_buffer() {
         }
         let length = [0, 1, 8192, 5 * 8192, 32 * 8192, 255 * 8192][numbers.below(6)];
         let mut disk = vec![0; length];
+        let mut lent = vec![0; [0, 1, 16_384, 16_384, 16_385][numbers.below(5)]];
         let length = numbers.below(300);
         let mut sent = numbers.bytes(length);
         let sound = fields::state_is_sound(&state);
-        let number = request(&mut state, &mut disk, &mut sent);
+        let number = request(&mut state, &mut disk, &mut lent, &mut sent);
         assert_eq!(sound, number != 107);
+        assert!(lent.len() == 16_384 || matches!(number, 106 | 107));
     }
 }
 
@@ -156,7 +190,7 @@ pub fn spoil(state: &mut State, numbers: &mut Numbers) {
     let phy: &mut Phy = &mut state.phys[numbers.below(32)];
     let row: &mut Row = &mut state.rows[numbers.below(64)];
     let connector = &mut state.connectors[numbers.below(32)].0;
-    match numbers.below(14) {
+    match numbers.below(16) {
         0 => state.level = numbers.byte(),
         1 => state.p = numbers.byte(),
         2 => state.a = numbers.byte(),
@@ -170,6 +204,8 @@ pub fn spoil(state: &mut State, numbers: &mut Numbers) {
         10 => state.controller_status[numbers.below(36)] = numbers.byte(),
         11 => connector[numbers.below(36)] = numbers.byte(),
         12 => phy.spinup_hold = numbers.byte(),
+        13 => state.staged = numbers.byte(),
+        14 => state.staged_revisions[numbers.below(4)] = u16::from(numbers.byte()),
         _ => row.sas_address[numbers.below(8)] = numbers.byte(),
     }
 }

@@ -1,7 +1,7 @@
 //! The disk, by passthroughs: each command, its Status, its data and the medium.
 
 use super::adapter::{
-    address, answer, buffer, code_of, fis, medium, passthrough, return_code, sample,
+    address, answer, buffer, code_of, fis, medium, passthrough, return_code, sample, stage,
 };
 
 /// The reply to a passthrough of the sample's phy 0: Status, the data and the medium.
@@ -9,7 +9,8 @@ fn pass(fis: [u8; 20], data: &[u8]) -> (Vec<u8>, Vec<u8>, Vec<u8>) {
     let body = passthrough(fis, data);
     let mut sent = buffer(25, &body);
     let mut disk = medium(5);
-    assert_eq!(code_of(&mut sample(), &mut disk, &mut sent), 0);
+    let code = code_of(&mut sample(), &mut disk, &mut stage(), &mut sent);
+    assert_eq!(code, 0);
     assert_eq!(sent[28..72], body[..44]);
     (sent[72..164].to_vec(), sent[164..].to_vec(), disk)
 }
@@ -57,7 +58,8 @@ fn disk_of_phy_n() {
     body[4..12].copy_from_slice(&address(4));
     let mut disk = medium(5);
     let mut sent = buffer(25, &body);
-    assert_eq!(code_of(&mut sample(), &mut disk, &mut sent), 0);
+    let code = code_of(&mut sample(), &mut disk, &mut stage(), &mut sent);
+    assert_eq!(code, 0);
     let mut expected = medium(5);
     expected[4 * 8192..4 * 8192 + 512].fill(0x5A);
     assert_eq!(disk, expected);
@@ -125,11 +127,11 @@ fn disk_data_over_data_length() {
 /// A list of requests: each gets what the call before it left.
 #[test]
 fn a_write_is_read_back() {
-    let (mut state, mut disk) = (sample(), medium(5));
+    let (mut state, mut disk, mut stage) = (sample(), medium(5), stage());
     let mut write = buffer(25, &passthrough(fis(0x30, 7, 1), &[0x99; 512]));
-    assert_eq!(code_of(&mut state, &mut disk, &mut write), 0);
+    assert_eq!(code_of(&mut state, &mut disk, &mut stage, &mut write), 0);
     let mut read = buffer(25, &passthrough(fis(0x20, 7, 1), &[0; 512]));
-    assert_eq!(code_of(&mut state, &mut disk, &mut read), 0);
+    assert_eq!(code_of(&mut state, &mut disk, &mut stage, &mut read), 0);
     assert_eq!(read[164..], [0x99; 512]);
     assert_eq!(return_code(&read), 0);
 }

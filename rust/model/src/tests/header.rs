@@ -1,16 +1,18 @@
 //! The checks of every request: the numbers, the header and the level, in their order.
 
-use super::adapter::{answer_of, buffer, fis, medium, passthrough, row, sample, sample_at};
+use super::adapter::{answer_of, buffer, fis, medium, passthrough, row, sample, sample_at, stage};
+use super::firmware;
 use crate::layout::entity;
 use crate::{denied, request, State};
 
 /// The smallest bodies that are served, by code.
-pub fn bodies() -> [(u32, Vec<u8>); 11] {
+pub fn bodies() -> [(u32, Vec<u8>); 12] {
     let row = row(1);
     [
         (1, vec![0; 174]),
         (2, vec![0xCC; 176]),
         (3, vec![0xCC; 36]),
+        (4, firmware::validation(&firmware::image(1, [7, 8, 9, 10]))),
         (20, vec![0xCC; 2052]),
         (21, vec![0; 8]),
         (22, vec![0; 20]),
@@ -23,23 +25,29 @@ pub fn bodies() -> [(u32, Vec<u8>); 11] {
 }
 
 /// The number of a call that must leave everything as it was.
-fn number_of(state: &State, medium: &[u8], buffer: &[u8]) -> u32 {
+fn number_of(state: &State, medium: &[u8], stage: &[u8], buffer: &[u8]) -> u32 {
     let (mut s, mut m, mut b) = (state.clone(), medium.to_vec(), buffer.to_vec());
-    let number = request(&mut s, &mut m, &mut b);
+    let mut lent = stage.to_vec();
+    let number = request(&mut s, &mut m, &mut lent, &mut b);
     assert_ne!(number, 0);
     assert_eq!((&s, &m[..], &b[..]), (state, medium, buffer));
-    assert!(!denied(state, medium, buffer));
+    assert_eq!(lent, stage);
+    assert!(!denied(state, medium, stage, buffer));
     number
 }
 
 #[test]
 fn number_107_then_106_then_100() {
     let sound = buffer(1, &[0; 174]);
-    assert_eq!(number_of(&State::ZERO, &[], &[]), 107);
-    assert_eq!(number_of(&State::ZERO, &medium(5), &sound), 107);
-    assert_eq!(number_of(&sample(), &medium(4), &[]), 106);
+    let (disk, lent) = (medium(5), stage());
+    assert_eq!(number_of(&State::ZERO, &[], &[], &[]), 107);
+    assert_eq!(number_of(&State::ZERO, &disk, &[], &sound), 107);
+    assert_eq!(number_of(&State::ZERO, &disk, &lent, &sound), 107);
+    assert_eq!(number_of(&sample(), &medium(4), &lent, &[]), 106);
+    assert_eq!(number_of(&sample(), &disk, &lent[1..], &[]), 106);
     for length in 0..28 {
-        assert_eq!(number_of(&sample(), &medium(5), &sound[..length]), 100);
+        let short = &sound[..length];
+        assert_eq!(number_of(&sample(), &disk, &lent, short), 100);
     }
 }
 
@@ -67,7 +75,7 @@ fn number_107_each_rule() {
     for change in changes {
         let mut state = sample();
         change(&mut state);
-        assert_eq!(number_of(&state, &medium(5), &[]), 107);
+        assert_eq!(number_of(&state, &medium(5), &stage(), &[]), 107);
     }
     // one row of zeros is a row like others
     let mut state = sample();
@@ -112,7 +120,7 @@ fn header_checks() {
 #[test]
 fn unknown_codes() {
     for code in (0..70).chain([u32::MAX, 257]) {
-        let known = matches!(code, 1..=3 | 20..=22 | 25..=28 | 30);
+        let known = matches!(code, 1..=4 | 20..=22 | 25..=28 | 30);
         let mut sent = buffer(code, &[0; 2052]);
         if !known {
             assert_eq!(answer_of(&mut sample(), &mut sent), 2);
@@ -127,10 +135,15 @@ fn unknown_codes() {
 fn levels() {
     for (code, body) in bodies() {
         for level in 0..=3 {
-            let need = if code == 21 { 3 } else { 1 };
+            let need = match code {
+                21 => 3,
+                4 => 2,
+                _ => 1,
+            };
             let mut state = sample_at(level);
             let mut sent = buffer(code, &body);
-            assert_eq!(denied(&state, &medium(5), &sent), level < need);
+            let was_denied = denied(&state, &medium(5), &stage(), &sent);
+            assert_eq!(was_denied, level < need);
             let expected = if level < need { 4 } else { 0 };
             assert_eq!(answer_of(&mut state, &mut sent), expected);
         }
@@ -148,7 +161,9 @@ fn levels() {
     }
     // denied only past the Length check
     let state = sample_at(0);
-    assert!(!denied(&state, &medium(5), &buffer(21, &[0; 7])));
-    assert!(!denied(&state, &medium(4), &buffer(21, &[0; 8])));
-    assert!(denied(&state, &medium(5), &buffer(21, &[0; 8])));
+    let (disk, lent) = (medium(5), stage());
+    assert!(!denied(&state, &disk, &lent, &buffer(21, &[0; 7])));
+    assert!(!denied(&state, &medium(4), &lent, &buffer(21, &[0; 8])));
+    assert!(!denied(&state, &disk, &lent[1..], &buffer(21, &[0; 8])));
+    assert!(denied(&state, &disk, &lent, &buffer(21, &[0; 8])));
 }

@@ -3,15 +3,18 @@
 use super::{adapter, linux};
 use crate::{request, request_linux, State};
 
+/// A call with either header: its number. The control code beside the buffer is the Linux header's.
+type Call = fn(&mut State, &mut [u8], &mut [u8], u32, &mut [u8]) -> u32;
+
 /// A header, and a request with it.
+#[derive(Clone, Copy)]
 pub struct Header {
     pub size: usize,
     /// Where the return code stands.
     pub code_at: usize,
     /// A sound buffer of a code with this body.
     pub buffer: fn(u32, &[u8]) -> Vec<u8>,
-    /// The call's number.
-    pub request: fn(&mut State, &mut [u8], u32, &mut [u8]) -> u32,
+    pub request: Call,
     /// The lowest level at which it serves what needs Restricted.
     pub lowest: u8,
 }
@@ -20,7 +23,7 @@ pub const FIRST: Header = Header {
     size: 28,
     code_at: 20,
     buffer: adapter::buffer,
-    request: |state, medium, _, buffer| request(state, medium, buffer),
+    request: |state, medium, stage, _, buffer| request(state, medium, stage, buffer),
     lowest: 1,
 };
 
@@ -43,13 +46,14 @@ impl Header {
         &self,
         state: &mut State,
         medium: &mut [u8],
+        stage: &mut [u8],
         code: u32,
         body: &[u8],
     ) -> (u32, Vec<u8>) {
-        let before = (state.clone(), medium.to_vec());
+        let before = (state.clone(), medium.to_vec(), stage.to_vec());
         let sent = (self.buffer)(code, body);
         let mut buffer = sent.clone();
-        assert_eq!((self.request)(state, medium, code, &mut buffer), 0);
+        assert_eq!((self.request)(state, medium, stage, code, &mut buffer), 0);
         let answered = self.return_code(&buffer);
         let header = self.with_code(sent, answered)[..self.size].to_vec();
         assert_eq!(buffer[..self.size], header);
@@ -59,6 +63,7 @@ impl Header {
                 (&*state, &*medium, &reply[..]),
                 (&before.0, &before.1[..], body)
             );
+            assert_eq!(*stage, before.2);
         }
         (answered, reply)
     }

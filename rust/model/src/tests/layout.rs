@@ -1,6 +1,6 @@
 //! The state as bytes: each byte has its place, and nothing is lost on the way.
 
-use super::adapter::{buffer, medium, sample};
+use super::adapter::{buffer, medium, sample, stage};
 use super::arbitrary::Numbers;
 use crate::layout::state::SIZE;
 use crate::{request, Connector, Phy, Row, State};
@@ -44,7 +44,11 @@ fn every_field_has_its_place() {
     for (n, connector) in state.connectors.iter().enumerate() {
         assert_eq!(connector.0, bytes[5029 + 36 * n..][..36]);
     }
-    assert_eq!(SIZE, 6181);
+    assert_eq!(state.staged, bytes[6181]);
+    for (i, revision) in state.staged_revisions.iter().enumerate() {
+        assert_eq!(revision.to_le_bytes(), bytes[6182 + 2 * i..][..2]);
+    }
+    assert_eq!(SIZE, 6190);
 }
 
 #[test]
@@ -88,6 +92,8 @@ fn every_state_comes_back() {
         state.controller_config = numbers.array();
         state.controller_status = numbers.array();
         state.connectors = std::array::from_fn(|_| Connector(numbers.array()));
+        state.staged = numbers.byte();
+        state.staged_revisions = std::array::from_fn(|_| numbers.next() as u16);
         assert_eq!(State::from_bytes(&state.to_bytes()), state);
     }
 }
@@ -118,7 +124,7 @@ fn requests_on_any_bytes() {
         }
         let mut state = State::from_bytes(&bytes);
         let mut sent = buffer(1, &[0; 174]);
-        let number = request(&mut state, &mut medium(5), &mut sent);
+        let number = request(&mut state, &mut medium(5), &mut stage(), &mut sent);
         assert_eq!(state.to_bytes(), bytes);
         match number {
             0 => assert!(sent[20] == 4 || sent[28..] == bytes[3..177]),

@@ -1,7 +1,7 @@
 //! Code 22 and its need (W-202): every reset byte at every level, with a phy and without, behind
 //! either header; the checks before the need; and two runs.
 
-use super::adapter::{self, medium, sample_at};
+use super::adapter::{self, medium, sample_at, stage};
 use super::linux;
 use crate::{denied, request, State};
 
@@ -15,8 +15,8 @@ fn body(phy: u8, reset: u8) -> [u8; 20] {
 struct Header {
     size: usize,
     buffer: fn(&[u8]) -> Vec<u8>,
-    code_of: fn(&mut State, &mut [u8], &mut [u8]) -> u32,
-    denied: fn(&State, &[u8], &[u8]) -> bool,
+    code_of: fn(&mut State, &mut [u8], &mut [u8], &mut [u8]) -> u32,
+    denied: fn(&State, &[u8], &[u8], &[u8]) -> bool,
 }
 
 const FIRST: Header = Header {
@@ -29,18 +29,21 @@ const FIRST: Header = Header {
 const LINUX: Header = Header {
     size: 20,
     buffer: linux::buffer,
-    code_of: |state, medium, buffer| linux::code_of(state, medium, 22, buffer),
-    denied: |_, _, _| false,
+    code_of: |state, medium, stage, buffer| linux::code_of(state, medium, stage, 22, buffer),
+    denied: |_, _, _, _| false,
 };
 
 impl Header {
     /// The return code of a request, and its buffer afterwards. With 0 the counters are reported,
-    /// and all four cleared if the reset byte is 1; with another nothing changes but the code.
+    /// and all four cleared if the reset byte is 1; with another nothing changes but the code. The
+    /// stage never does.
     fn send(&self, state: &mut State, medium: &mut [u8], phy: u8, reset: u8) -> (u32, Vec<u8>) {
         let (mut information, mut expected) = (body(phy, reset), state.clone());
         let mut buffer = (self.buffer)(&information);
-        let was_denied = (self.denied)(state, medium, &buffer);
-        let code = (self.code_of)(state, medium, &mut buffer);
+        let mut staged = stage();
+        let was_denied = (self.denied)(state, medium, &staged, &buffer);
+        let code = (self.code_of)(state, medium, &mut staged, &mut buffer);
+        assert_eq!(staged, stage());
         if code == 0 {
             let counters = &mut expected.phys[usize::from(phy)].counters;
             information[4..].copy_from_slice(&counters.map(u32::to_le_bytes).concat());
@@ -84,15 +87,22 @@ fn every_reset_byte_at_every_level() {
     }
 }
 
-type Fault = (fn(&mut State, &mut Vec<u8>, &mut Vec<u8>), u32, u32);
+type Fault = (fn(&mut State, &mut Lent, &mut Vec<u8>), u32, u32);
+
+/// The medium and the stage.
+struct Lent {
+    medium: Vec<u8>,
+    stage: Vec<u8>,
+}
 
 /// What stands in the place of the return code before the call.
 const UNWRITTEN: u32 = 0x5555_5555;
 
 /// One for each check before the level, with the call's number and the return code.
-const FAULTS: [Fault; 8] = [
+const FAULTS: [Fault; 9] = [
     (|state, _, _| state.a = 65, 107, UNWRITTEN),
-    (|_, medium, _| medium.push(0), 106, UNWRITTEN),
+    (|_, lent, _| lent.medium.push(0), 106, UNWRITTEN),
+    (|_, lent, _| lent.stage.push(0), 106, UNWRITTEN),
     (|_, _, buffer| buffer.truncate(27), 100, UNWRITTEN),
     (|_, _, buffer| buffer[0] = 27, 0, 3),
     (|_, _, buffer| buffer[16] = 24, 0, 2),
@@ -107,13 +117,16 @@ fn checks_before_the_need() {
     for (put, number, code) in FAULTS {
         for level in 0..=3 {
             for (phy, reset) in [(0, 0), (0, 1), (5, 1), (0, 2)] {
-                let (mut state, mut medium) = (sample_at(level), medium(5));
+                let mut state = sample_at(level);
+                let (medium, stage) = (medium(5), stage());
+                let mut lent = Lent { medium, stage };
                 let mut sent = adapter::buffer(22, &body(phy, reset));
-                put(&mut state, &mut medium, &mut sent);
-                assert!(!denied(&state, &medium, &sent));
+                put(&mut state, &mut lent, &mut sent);
+                let Lent { medium, stage } = &mut lent;
+                assert!(!denied(&state, medium, stage, &sent));
 
                 let (before, mut reply) = (state.clone(), sent.clone());
-                assert_eq!(request(&mut state, &mut medium, &mut reply), number);
+                assert_eq!(request(&mut state, medium, stage, &mut reply), number);
                 sent[20..24].copy_from_slice(&code.to_le_bytes());
                 assert_eq!((state, reply), (before, sent));
             }
@@ -133,7 +146,8 @@ fn compare(lower: u8, higher: u8) {
         for header in [LINUX, FIRST] {
             for state in [&mut low, &mut high] {
                 let mut failing = linux::buffer(&[4, 0, 0, 8, 0, 0, 0, 0]);
-                assert_eq!(linux::code_of(state, &mut medium, 21, &mut failing), 0);
+                let code = linux::code_of(state, &mut medium, &mut stage(), 21, &mut failing);
+                assert_eq!(code, 0);
             }
             let (code, reply) = header.send(&mut low, &mut medium, phy, reset);
             if code != 4 {

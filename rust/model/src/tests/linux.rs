@@ -6,7 +6,7 @@ mod codes;
 mod order;
 mod sameness;
 
-use super::adapter::{medium, sample};
+use super::adapter::{medium, sample, stage};
 use crate::{request_linux, State};
 
 /// A sound buffer with this body; the bytes that are not read hold anything.
@@ -27,10 +27,18 @@ fn return_code(buffer: &[u8]) -> u32 {
 }
 
 /// The return code of a request whose call's number is 0; of the header only the code's bytes
-/// change, of the body, the state and the medium nothing if it isn't 0, and the level never.
-pub fn code_of(state: &mut State, medium: &mut [u8], control: u32, buffer: &mut [u8]) -> u32 {
+/// change, of the body, the state, the medium and the stage nothing if it isn't 0, and the level
+/// never.
+pub fn code_of(
+    state: &mut State,
+    medium: &mut [u8],
+    stage: &mut [u8],
+    control: u32,
+    buffer: &mut [u8],
+) -> u32 {
     let before = (state.clone(), medium.to_vec(), buffer.to_vec());
-    assert_eq!(request_linux(state, medium, control, buffer), 0);
+    let stage_before = stage.to_vec();
+    assert_eq!(request_linux(state, medium, stage, control, buffer), 0);
     let code = return_code(buffer);
     assert_eq!(buffer[..8], before.2[..8]);
     assert_eq!(buffer[12..20], before.2[12..20]);
@@ -38,6 +46,7 @@ pub fn code_of(state: &mut State, medium: &mut [u8], control: u32, buffer: &mut 
     if code != 0 {
         assert_eq!(*state, before.0);
         assert_eq!(*medium, before.1);
+        assert_eq!(*stage, stage_before);
         assert_eq!(buffer[20..], before.2[20..]);
     }
     code
@@ -45,5 +54,6 @@ pub fn code_of(state: &mut State, medium: &mut [u8], control: u32, buffer: &mut 
 
 /// The return code of one request to the sample.
 fn answer(control: u32, buffer: &mut [u8]) -> u32 {
-    code_of(&mut sample(), &mut medium(5), control, buffer)
+    let (mut state, mut medium, mut stage) = (sample(), medium(5), stage());
+    code_of(&mut state, &mut medium, &mut stage, control, buffer)
 }

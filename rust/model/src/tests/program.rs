@@ -1,6 +1,7 @@
 //! All that the program prints: openings, a line for each request, `cut`, and the total of W-206.
 
 mod cut;
+mod firmware;
 mod openings;
 mod sessions;
 

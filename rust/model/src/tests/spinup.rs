@@ -11,7 +11,7 @@ mod runs;
 mod state;
 
 use super::headers::{Header, FIRST, LINUX};
-use crate::tests::adapter::{attach, bare, medium};
+use crate::tests::adapter::{attach, bare, medium, stage};
 use crate::{Phy, State};
 
 /// Attached device types and target protocols, and whether that is a SATA phy.
@@ -104,10 +104,13 @@ impl Case {
     }
 }
 
-/// Sends a code 21 with this body and returns its code; an accepted one leaves body and medium.
+/// Sends a code 21 with this body and returns its code; an accepted one leaves body, medium and
+/// stage.
 fn set(header: &Header, state: &mut State, body: [u8; 8]) -> u32 {
     let mut disk = medium(state.p);
-    let (code, reply) = header.answer(state, &mut disk, 21, &body);
+    let mut lent = stage();
+    let (code, reply) = header.answer(state, &mut disk, &mut lent, 21, &body);
+    assert_eq!(lent, stage());
     assert_eq!((&reply[..], disk), (&body[..], medium(state.p)));
     code
 }

@@ -1,6 +1,6 @@
 //! The starred cases and the worked example.
 
-use super::adapter::{buffer, file, medium, return_code, sample};
+use super::adapter::{buffer, file, medium, return_code, sample, stage};
 use crate::disk::Outcome;
 use crate::file::file_length;
 use crate::level::Level;
@@ -94,15 +94,15 @@ fn disks() {
 fn worked_example() {
     let (number, mut state) = open(b"CSMI=Restricted;", &file(&sample()), &medium(5));
     assert_eq!(number, 0);
-    let mut medium = medium(5);
+    let (mut medium, mut stage) = (medium(5), stage());
     let sent = [
         buffer(1, &[0; 174]),
         buffer(21, &[0, 0, 0, 0, 1, 0, 0, 0]),
         vec![0; 5],
     ];
     let seen = sent.map(|mut buffer| {
-        let was_denied = denied(&state, &medium, &buffer);
-        let number = request(&mut state, &mut medium, &mut buffer);
+        let was_denied = denied(&state, &medium, &stage, &buffer);
+        let number = request(&mut state, &mut medium, &mut stage, &mut buffer);
         let code = (number == 0).then(|| return_code(&buffer));
         (number, code, was_denied)
     });

@@ -6,19 +6,22 @@ use crate::line::Line;
 use model::codes::call;
 use model::layout::file::BLOCK;
 use model::layout::header::{CONTROL_CODE, LENGTH, RETURN_CODE};
-use model::layout::{DISK, MAX_PHYS};
+use model::layout::{DISK, MAX_PHYS, STAGE};
 use model::{Connector, Phy, Row, State};
 
 /// Room for a file, and for the buffer of a request; a line says how much of it is lent.
 const ROOM: usize = 65_536;
 
-/// HeaderLength 28, and the signature of every code but 1, 2 and 3.
+/// HeaderLength 28, and the signature of every code but 1 to 4.
 const HEADER_START: &[u8] = b"\x1c\0\0\0CSMISAS\0";
 
 pub struct Adapter {
     file: Vec<u8>,
     /// Room for the disks of 32 phys.
     medium: Vec<u8>,
+    /// Room for a stage, of which requests are lent the first so many bytes.
+    stage: Vec<u8>,
+    lent: usize,
     state: State,
 }
 
@@ -28,6 +31,8 @@ impl Adapter {
         Adapter {
             file: vec![0; ROOM],
             medium: vec![0; DISK * MAX_PHYS],
+            stage: vec![0; ROOM],
+            lent: STAGE,
             state: State::ZERO,
         }
     }
@@ -42,6 +47,8 @@ impl Adapter {
             "y" => self.phy(line),
             "w" => self.row(line),
             "c" => self.connector(line),
+            "t" => self.stage(line),
+            "i" => self.staged(line),
             "o" => return Some(self.open(line)),
             "q" => return Some(self.request(line)),
             "#" => return Some(whole.to_string()),
@@ -81,6 +88,22 @@ impl Adapter {
         self.state.connectors[n] = Connector(line.patched());
     }
 
+    /// t SIZE STEP
+    fn stage(&mut self, mut line: Line) {
+        self.lent = line.number();
+        fill(&mut self.stage, line.number());
+    }
+
+    /// i STAGED AT:HEX ..
+    fn staged(&mut self, mut line: Line) {
+        self.state.staged = line.number();
+        let bytes: [u8; 8] = line.patched();
+        let (numbers, _) = bytes.as_chunks();
+        for (revision, &number) in self.state.staged_revisions.iter_mut().zip(numbers) {
+            *revision = u16::from_le_bytes(number);
+        }
+    }
+
     /// o MEDIUM FILE STEP TEXT
     fn open(&mut self, mut line: Line) -> String {
         let lent: usize = line.number();
@@ -89,7 +112,11 @@ impl Adapter {
         let (medium, file) = (&self.medium[..lent], &self.file[..length]);
         let (number, state) = model::open(line.0.as_bytes(), file, medium);
         self.state = state;
-        format!("o {number} {}", digests(file, medium, &self.state))
+        let [file, medium] = [file, medium].map(digest::of_bytes);
+        format!(
+            "o {number} {file} {medium} {}",
+            digest::of_state(&self.state)
+        )
     }
 
     /// q MEDIUM SIZE STEP CODE LENGTH AT:HEX ..
@@ -97,16 +124,13 @@ impl Adapter {
         let lent: usize = line.number();
         let size: usize = line.number();
         let (medium, buffer) = (&mut self.medium[..lent], &mut sent(line)[..size]);
-        let number = model::request(&mut self.state, medium, buffer);
+        let stage = &mut self.stage[..self.lent];
+        let number = model::request(&mut self.state, medium, stage, buffer);
         let code = return_code(number, buffer);
-        format!("q {number} {code} {}", digests(buffer, medium, &self.state))
+        let [buffer, medium, stage] = [&*buffer, &*medium, &*stage].map(digest::of_bytes);
+        let state = digest::of_state(&self.state);
+        format!("q {number} {code} {buffer} {medium} {stage} {state}")
     }
-}
-
-/// The digests of a file or a buffer, of the medium and of the state.
-fn digests(bytes: &[u8], medium: &[u8], state: &State) -> String {
-    let [bytes, medium] = [bytes, medium].map(digest::of_bytes);
-    format!("{bytes} {medium} {}", digest::of_state(state))
 }
 
 /// Byte i becomes step × (i + 1) modulo 251.

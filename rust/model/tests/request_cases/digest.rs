@@ -33,7 +33,7 @@ pub fn of_bytes(bytes: &[u8]) -> u64 {
 }
 
 /// The level, the counts and the driver info, the phys, the rows, the controller's configuration and
-/// status, and the connectors.
+/// status, the connectors, and what is staged.
 pub fn of_state(state: &State) -> u64 {
     let bytes = state.to_bytes();
     let before = after(START, &bytes[..state::PHYS]);

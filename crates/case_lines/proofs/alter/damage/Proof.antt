@@ -11,4 +11,5 @@ damage-spec =
     tie.close
     (tie.spec (λ c κs. search needs) (λ c. search needs) (λ c. search picks) (λ c κs. search needs) (λ c. search needs)
     (λ c. search picks) (λ c κs. search needs) (λ c. search needs) (λ c. search picks) (λ c κs. search needs)
+    (λ c. search needs) (λ c. search picks) (λ c κs. search needs)
     (λ c. search needs) (λ c. search picks) (λ c. search picks))

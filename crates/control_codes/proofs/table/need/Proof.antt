@@ -10,7 +10,7 @@ pub need-spec : {M : Type 1} → statement M
 unfolding need
 need-spec =
     tie.close
-    (tie.spec (λ c. search picks depth 18) (λ c. search picks depth 18) (λ c. search picks depth 18)
+    (tie.spec (λ c. search picks depth 18) (λ c. search picks depth 18) (λ c. search picks depth 18) (λ c. search picks depth 18)
     (λ c. search picks depth 18) (λ c. search picks depth 18) (λ c. search (errors-room, needs)) (λ c κs. search needs)
     (λ c. search picks depth 18) (λ c. search (passthrough-room, needs)) (λ c κs. search needs)
     (λ c. search picks depth 18) (λ c. search picks depth 18) (λ c. search picks depth 18) (λ c. search picks depth 18)

@@ -8,7 +8,7 @@ pub structure-size-spec : {M : Type 1} → statement M
 unfolding structureSize
 structure-size-spec =
     tie.close
-    (tie.spec (λ c. search picks depth 18) (λ c. search picks depth 18) (λ c. search picks depth 18)
+    (tie.spec (λ c. search picks depth 18) (λ c. search picks depth 18) (λ c. search picks depth 18) (λ c. search picks depth 18)
     (λ c. search picks depth 18) (λ c. search picks depth 18) (λ c. search picks depth 18) (λ c. search picks depth 18)
     (λ c. search picks depth 18) (λ c. search picks depth 18) (λ c. search picks depth 18) (λ c. search picks depth 18)
     (λ c. search picks depth 18))

@@ -11,5 +11,5 @@ unfolding answered
 check-and-serve-spec =
     tie.close
     (tie.spec (λ c κs. search needs)
-    (λ c κs. (search needs, (search needs, (search needs, (search needs, search (checked-room, needs)))))) (λ c. search needs)
+    (λ c κs. (search needs, (search needs, (search needs, (search needs, (search needs, search (checked-room, needs))))))) (λ c. search needs) (λ c. search needs)
     (λ c. search needs) (λ c. search needs) (λ c. search picks) (λ c. search needs) (λ c. search (refused-by, picks)))

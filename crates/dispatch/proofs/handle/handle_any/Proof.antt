@@ -7,5 +7,5 @@ use Rattle.dispatch.proofs.handle.handle_any.Tie as tie
 pub handle-any-spec : {M : Type 1} → statement M
 handle-any-spec =
     tie.close
-    (tie.spec (λ c κs. search needs) (λ c. search needs) (λ c. search needs) (λ c. search needs)
+    (tie.spec (λ c κs. search needs) (λ c. search needs) (λ c. search needs) (λ c. search needs) (λ c. search needs)
     (λ c. search (request-whole, needs)) (λ c. search (request-other, needs)))

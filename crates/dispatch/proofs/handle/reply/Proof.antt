@@ -9,5 +9,6 @@ pub reply-spec : {M : Type 1} → statement M
 reply-spec =
     tie.close
     (tie.spec (λ c. search needs) (λ c. search needs) (λ c. search needs) (λ c. search needs)
-    (λ c κs. (search (lent-size, needs), ((search (lent-phys, needs), search (lent-rows, needs)), (search (lent-medium, needs), search needs))))
+    (λ c κs. (search (lent-size, needs), ((search (lent-phys, needs), search (lent-rows, needs)), (search (lent-medium, needs), (search needs, search needs)))))
+    (λ c. search needs)
     (λ c. search needs) (λ c. search needs) (λ c. search needs) (λ c. (search (reply-back, needs), search needs)))

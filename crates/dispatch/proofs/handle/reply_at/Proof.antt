@@ -7,5 +7,5 @@ use Rattle.dispatch.proofs.handle.reply_at.Tie as tie
 pub reply-at-spec : {M : Type 1} → statement M
 reply-at-spec =
     tie.close
-    (tie.spec (λ c κs. search needs) (λ c κs. search needs) (λ c. search needs) (λ c. search needs) (λ c. search needs)
+    (tie.spec (λ c κs. search needs) (λ c κs. search needs) (λ c. search needs) (λ c. search needs) (λ c. search needs) (λ c. search needs)
     (λ c. (search (reply-by, needs), search needs)))

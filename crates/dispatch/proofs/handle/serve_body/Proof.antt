@@ -8,5 +8,5 @@ pub serve-body-spec : {M : Type 1} → statement M
 serve-body-spec =
     tie.close
     (tie.spec (λ c κs. search needs) (λ c κs. search needs) (λ c. search needs) (λ c. search needs) (λ c. search needs)
-    (λ c κs. (search needs, (search needs, (search needs, search (body-room, needs))))) (λ c. search needs)
+    (λ c κs. (search needs, (search needs, (search needs, (search needs, search (body-room, needs)))))) (λ c. search needs) (λ c. search needs)
     (λ c. search needs) (λ c. search needs) (λ c. search (body-back, needs)))

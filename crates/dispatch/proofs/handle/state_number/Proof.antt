@@ -9,4 +9,4 @@ pub state-number-spec : {M : Type 1} → statement M
 unfolding stateNumber
 state-number-spec =
     tie.close
-    (tie.spec (λ c κs. search needs) (λ c κs. search needs) (λ c. search picks) (λ c. search picks) (λ c. search picks))
+    (tie.spec (λ c κs. search needs) (λ c κs. search needs) (λ c κs. search needs) (λ c. search picks) (λ c. search picks) (λ c. search picks))

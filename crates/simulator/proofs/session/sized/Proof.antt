@@ -7,4 +7,4 @@ use Rattle.simulator.proofs.session.sized.Tie as tie
 pub sized-spec : {M : Type 1} → statement M
 sized-spec =
     tie.close
-    (tie.spec (λ c. search needs) (λ c κs. search needs) (λ c. search needs) (λ c. search needs) (λ c h. absurd (omega arith)))
+    (tie.spec (λ c. search needs) (λ c κs. search needs) (λ c. search needs) (λ c. search needs) (λ c. search needs) (λ c h. absurd (omega arith)))

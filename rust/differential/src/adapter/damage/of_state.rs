@@ -5,14 +5,14 @@ use super::one::{of_state, Damage};
 use crate::names::phy::*;
 use crate::names::{connector, row, state, ENTITY, MAX_PHYS, MAX_ROWS};
 
-/// A level over 3, bytes past p and a, and counts that are not those of its phys and rows.
+/// A level over 3, bytes past p and a, counts that are not those of its phys and rows, and a wrong staged image.
 pub const STATE: &[Damage] = &[
     of_state("level over 3", |r, held| {
         set(held, state::LEVEL, r.within(4, 255) as u8)
     }),
     of_state("no phys, and nothing past them", |_, held| {
         held.bytes[state::PHYS..state::ROWS].fill(0);
-        held.bytes[state::CONNECTORS..].fill(0);
+        held.bytes[state::CONNECTORS..state::STAGED].fill(0);
         set(held, state::PHY_COUNT, 0)
     }),
     of_state("33 phys, where 32 are there", |r, held| {
@@ -44,6 +44,17 @@ pub const STATE: &[Damage] = &[
             (a <= MAX_ROWS).then(|| held.bytes[state::ROW_COUNT] = r.within(a, MAX_ROWS) as u8)
         },
     ),
+    of_state("staged over 1", |r, held| {
+        let other = r.within(2, 255) as u8;
+        set(held, state::STAGED, r.pick(&[2, 3, 255, other]))
+    }),
+    of_state("staged over 1, with revisions", |r, held| {
+        spoil(r, held, state::STAGED_REVISIONS, state::SIZE)?;
+        set(held, state::STAGED, r.within(2, 255) as u8)
+    }),
+    of_state("revisions of nothing staged", |r, held| {
+        spoil(r, held, state::STAGED_REVISIONS, state::SIZE)
+    }),
     of_state("entity past p", |r, held| past_phys(r, held, 0, ENTITY)),
     of_state("counter past p", |r, held| {
         past_phys(r, held, COUNTERS, SIGNATURE)

@@ -1,6 +1,6 @@
 //! `long_run [REQUESTS] [SEED]`: random cases through both implementations, by the runs and by the calls, until so many requests were
-//! handled (a million if not said), with the tally of each run and the properties of whole runs, of the two headers and of requests that
-//! report; then states that a caller made, every single-byte damage of a small file, and every single byte of two states altered. Prints
+//! handled (a million if not said), with the tally of each run and the properties of whole runs, of the two headers, of requests that
+//! report and of firmware; then states that a caller made, every single-byte damage of a small file, and every single byte of two states altered. Prints
 //! the figures; the exit status is 1 if anything differed.
 
 mod runs;
@@ -107,6 +107,7 @@ impl Compared {
                 runs.properties(seed, framing);
                 runs.sameness(seed);
                 runs.reporting(seed);
+                runs.firmware(seed);
             }
             round += 1;
         }
@@ -119,12 +120,13 @@ impl Compared {
             Err(what) => runs.faults.push(format!("tally of all runs: {what}")),
         }
         println!(
-            "{} requests in {round} cases, each by the run and by the calls; two runs, last writers and spin-up holds of {} lists more; \
-             {} bodies behind both headers; {} requests that report; {}",
+            "{} requests in {round} cases, each by the run and by the calls; two runs, last writers, spin-up holds and firmware of {} lists \
+             more; {} bodies behind both headers; {} requests that report; {} of firmware; {}",
             runs.coverage.requests,
             runs.properties,
             runs.twins,
             runs.reports,
+            runs.firmware,
             seconds(start)
         );
         println!("{}", runs.coverage);
@@ -147,6 +149,10 @@ impl Compared {
         println!(
             "107 for a spin-up hold alone: {} with the first header, {} with the Linux header",
             made.by_hold[0], made.by_hold[1]
+        );
+        println!(
+            "106 for the stage alone: {} with the first header, {} with the Linux header",
+            made.by_stage[0], made.by_stage[1]
         );
         self.call_requests += made.requests;
         self.differ(&made.differences);

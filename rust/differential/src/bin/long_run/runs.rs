@@ -5,16 +5,21 @@ use differential::case::{Case, Outcome};
 use differential::compare::{compare, Difference};
 use differential::coverage::Coverage;
 use differential::random::Random;
+use differential::read_only::Kept;
 use differential::session::Framing;
 use differential::side::{CALLS, SIDES};
-use differential::two_runs::{check, check_denied, check_each, check_read_only, Level, Start};
-use differential::{generate, last_writer, reporting, sameness, spinup, tally, text};
+use differential::start::{Level, Start};
+use differential::two_runs::{check, check_denied, check_each};
+use differential::{
+    firmware, generate, last_writer, read_only, reporting, sameness, spinup, stage, tally, text,
+};
 
-/// The most requests of a case, the requests of a list, the bodies behind both headers, the requests that report.
+/// The most requests of a case, the requests of a list, the bodies behind both headers, the requests that report, those of firmware.
 const CASE: usize = 120;
 const LIST: usize = 80;
 const TWINS: usize = 40;
 const REPORTS: usize = 40;
+const FIRMWARE: usize = 40;
 
 #[derive(Default)]
 pub struct Runs {
@@ -24,6 +29,7 @@ pub struct Runs {
     pub properties: u64,
     pub twins: u64,
     pub reports: u64,
+    pub firmware: u64,
     pub faults: Vec<String>,
 }
 
@@ -49,13 +55,14 @@ impl Runs {
         self.note(&format!("seed {}, tally", case.seed), totals);
     }
 
-    /// Two runs, the last writers and the spin-up holds of a list.
+    /// Two runs, the last writers, the spin-up holds and the firmware of a list.
     pub fn properties(&mut self, seed: u64, framing: Framing) {
         self.properties += 1;
         let random = &mut Random::new(seed);
         let adapter = Adapter::sound(random);
         let opening = generate::sound_opening(random, &adapter);
         let requests = generate::requests_of(random, &adapter, LIST, framing);
+        let stage = stage::any(random);
         let low = text::LEVELS[random.below(4)];
         let high = text::LEVELS[random.within(usize::from(low), 3)];
         let low = Level::of_number(random, low);
@@ -64,22 +71,29 @@ impl Runs {
             seed,
             file: &opening.file,
             medium: &opening.medium,
+            stage: &stage,
             requests: &requests,
         };
-        let case = Case::of_requests(seed, &high.text, &opening.file, &opening.medium, &requests);
+        let (file, medium) = (&opening.file, &opening.medium);
+        let mut case = Case::of_requests(seed, &high.text, file, medium, &requests);
+        case.stage.clone_from(&stage);
         for side in SIDES {
             let name = format!("seed {seed}, {side:?}");
             let denied = check(side, &start, &low, &high).map(drop);
             self.note(&format!("{name}, two runs"), denied);
-            if low.number < text::FULL {
-                let left = check_read_only(side, &start, &low);
-                self.note(&format!("{name}, read-only"), left);
+            for kept in [Kept::Linux, Kept::LinuxAndFirmware] {
+                if low.number < kept.level() {
+                    let left = read_only::check(side, &start, &low, kept);
+                    self.note(&format!("{name}, read-only, {kept:?}"), left);
+                }
             }
             let outcome = side.run(&case);
             let rates = last_writer::check(&case, &outcome).map(drop);
             self.note(&format!("{name}, last writer"), rates);
             let holds = spinup::check(&case, &outcome).map(drop);
             self.note(&format!("{name}, spin-up holds"), holds);
+            let written = firmware::check(&case, &outcome, high.number).map(drop);
+            self.note(&format!("{name}, firmware"), written);
         }
         for side in CALLS {
             let name = format!("seed {seed}, {side:?}");
@@ -87,6 +101,8 @@ impl Runs {
             self.note(&format!("{name}, two runs by calls"), left);
             let holds = spinup::check_each(side, &start, &high);
             self.note(&format!("{name}, spin-up holds by calls"), holds);
+            let written = firmware::check_each(side, &start, &high);
+            self.note(&format!("{name}, firmware by calls"), written);
         }
         self.note(&format!("seed {seed}, denied"), check_denied(&start, &low));
     }
@@ -106,6 +122,15 @@ impl Runs {
         for side in CALLS {
             let left = reporting::walk(side, seed, REPORTS, |_| ());
             self.note(&format!("seed {seed}, {side:?}, reports only"), left);
+        }
+    }
+
+    /// Requests of firmware.
+    pub fn firmware(&mut self, seed: u64) {
+        self.firmware += FIRMWARE as u64;
+        for side in CALLS {
+            let left = firmware::walk(side, seed, FIRMWARE, |_| ());
+            self.note(&format!("seed {seed}, {side:?}, firmware alone"), left);
         }
     }
 

@@ -1,22 +1,23 @@
 //! Faults in a body, by its code.
 
-use crate::adapter::Adapter;
+use crate::adapter::{check, Adapter};
 use crate::names::ata::LBA_MODE;
+use crate::names::file::{BLOCK, CHECK};
 use crate::names::{
-    code, header, link_errors as errors, linux_header, scsi_address, set_phy_info as info, stp,
-    NOT_GIVEN,
+    code, firmware as download, header, link_errors as errors, linux_header, scsi_address,
+    set_phy_info as info, stp, NOT_GIVEN,
 };
 use crate::random::Random;
 use crate::request::fis;
-use crate::wire::put_word;
+use crate::wire::{put_word, word};
 
-/// What stands before a body, and before bDataBuffer in one.
+/// What stands before a body.
 const HEADER: u32 = header::SIZE as u32;
 const LINUX_HEADER: u32 = linux_header::SIZE as u32;
-const PARAMETERS: u32 = stp::DATA as u32;
 
 pub fn fault(random: &mut Random, adapter: &Adapter, control: u32, body: &mut [u8]) {
     match control {
+        code::FIRMWARE_DOWNLOAD if body.len() >= download::DATA => firmware(random, body),
         code::SET_PHY_INFO if body.len() >= info::SIZE => set_phy_info(random, adapter, body),
         code::LINK_ERRORS if body.len() > errors::RESET => link_errors(random, adapter, body),
         code::STP_PASSTHRU if body.len() >= stp::DATA => passthrough(random, adapter, body),
@@ -80,13 +81,48 @@ fn passthrough(random: &mut Random, adapter: &Adapter, body: &mut [u8]) {
             body[at] = random.other_than(body[at]);
         }
         8 => body[stp::COMMAND_FIS + fis::DEVICE] &= !LBA_MODE,
-        _ => data_length(random, body),
+        _ => data_length(random, body, stp::DATA_LENGTH, stp::DATA),
     }
 }
 
-/// A uDataLength that is too small, too large, or so large that it leaves 32 bits with the rest.
-fn data_length(random: &mut Random, body: &mut [u8]) {
-    let here = (body.len() - stp::DATA) as u32;
+fn firmware(random: &mut Random, body: &mut [u8]) {
+    match random.below(6) {
+        0 => body[download::FLAGS] ^= download::FWD_VALIDATE as u8,
+        1 => put_word(body, download::FLAGS, 1 << random.below(32)),
+        2 => data_length(random, body, download::BUFFER_LENGTH, download::DATA),
+        _ => image(random, &mut body[download::DATA..]),
+    }
+}
+
+/// A byte or the check of a block changed, or a block with the check of another number.
+fn image(random: &mut Random, image: &mut [u8]) {
+    let blocks = image.len() / BLOCK;
+    if blocks == 0 {
+        return;
+    }
+    let number = random.below(blocks);
+    let block = &mut image[number * BLOCK..(number + 1) * BLOCK];
+    match random.below(3) {
+        0 => {
+            let at = random.below(CHECK);
+            block[at] = random.other_than(block[at]);
+        }
+        1 => {
+            let bit = 1 << random.below(32);
+            put_word(block, CHECK, word(block, CHECK) ^ bit);
+        }
+        _ => {
+            let other = random.pick(&[number + 1, number + 512, number.wrapping_sub(1)]);
+            put_word(block, CHECK, check(block, other));
+        }
+    }
+}
+
+/// A uDataLength or uBufferLength that is too small, too large, or so large that it leaves 32 bits with the rest: its place, and the
+/// structure before bDataBuffer.
+fn data_length(random: &mut Random, body: &mut [u8], place: usize, structure: usize) {
+    let here = (body.len() - structure) as u32;
+    let structure = structure as u32;
     let chosen = random.pick(&[
         0,
         here / 2,
@@ -95,11 +131,11 @@ fn data_length(random: &mut Random, body: &mut [u8]) {
         here + HEADER,
         here + LINUX_HEADER,
         u32::MAX,
-        u32::MAX - PARAMETERS + 1,
-        u32::MAX - PARAMETERS,
-        u32::MAX - HEADER - PARAMETERS + 1,
-        u32::MAX - LINUX_HEADER - PARAMETERS + 1,
+        u32::MAX - structure + 1,
+        u32::MAX - structure,
+        u32::MAX - HEADER - structure + 1,
+        u32::MAX - LINUX_HEADER - structure + 1,
         0x8000_0000,
     ]);
-    put_word(body, stp::DATA_LENGTH, chosen);
+    put_word(body, place, chosen);
 }

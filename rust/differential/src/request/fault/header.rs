@@ -8,8 +8,8 @@ use crate::wire::put_word;
 /// Codes that document 01 calls unknown, some of them known to 001; the last five are Linux's own numbers of codes that are known.
 const UNKNOWN: [u32; 22] = [
     0,
-    4,
     5,
+    6,
     19,
     23,
     24,

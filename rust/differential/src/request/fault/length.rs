@@ -1,6 +1,6 @@
 //! Length: wrong ones, and buffers that are longer than need be.
 
-use crate::names::{body_size, code, linux_header, stp, PROGRAM_LONGEST};
+use crate::names::{body_size, code, firmware, linux_header, stp, PROGRAM_LONGEST};
 use crate::random::Random;
 use crate::request::Request;
 use crate::wire::put_word;
@@ -39,7 +39,7 @@ fn put(request: &mut Request, length: u32) {
 }
 
 /// Bytes behind the buffer, up to a length near the program's limit or above it; sometimes Length takes them in, and of a passthrough
-/// uDataLength. No rule forbids them.
+/// uDataLength, of a download uBufferLength. No rule forbids them but of a download, whose image is then too long.
 pub fn lengthen(random: &mut Random, request: &mut Request) {
     let length = random.pick(&[
         PROGRAM_LONGEST - 1,
@@ -55,8 +55,12 @@ pub fn lengthen(random: &mut Random, request: &mut Request) {
     }
     let inside = request.body().len();
     put(request, (request.header.counted() + inside) as u32);
-    if request.control() == code::STP_PASSTHRU && random.one_in(2) {
-        let data = (inside - stp::DATA) as u32;
-        put_word(request.body_mut(), stp::DATA_LENGTH, data);
+    let (place, structure) = match request.control() {
+        code::FIRMWARE_DOWNLOAD => (firmware::BUFFER_LENGTH, firmware::DATA),
+        code::STP_PASSTHRU => (stp::DATA_LENGTH, stp::DATA),
+        _ => return,
+    };
+    if random.one_in(2) {
+        put_word(request.body_mut(), place, (inside - structure) as u32);
     }
 }

@@ -165,3 +165,24 @@ fn every_byte_of(line: &str) {
         assert!(!found.is_empty(), "{line}, byte {at}");
     }
 }
+
+/// The granted reply of a code 4 and a denied one; and an image, which no reply of the library alters.
+#[test]
+fn firmware_by_its_names() {
+    let line = "firmware-download validate status=reject severity=error blocks=2";
+    let low = request(&format!("{line} return-code=4"));
+    let high = request("firmware-download validate blocks=2");
+    assert_eq!(
+        lines(&low, &high),
+        [
+            "return-code: 4 | 0",
+            "status: 3 (reject) | 0 (success)",
+            "severity: 2 (error) | 0 (information)"
+        ]
+    );
+    let other = request("firmware-download validate blocks=2 damage=1");
+    assert_eq!(
+        lines(&high, &other),
+        ["image, 1 byte: 00*508+01+00*511+02000000 | 00*508+01+00*511+03000000"]
+    );
+}

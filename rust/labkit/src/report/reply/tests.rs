@@ -168,3 +168,99 @@ fn refusals_in_words() {
         "the request has 1 bytes, the reply 2"
     );
 }
+
+#[test]
+fn firmware_in_words() {
+    let line =
+        "firmware-download validate reserved=01*32 status=7 severity=3 major=2 release=7 blocks=2";
+    let sent = request(line);
+    let got = request("firmware-download validate reserved=01*32 major=2 release=7 blocks=2");
+    let rest = "  reserved           01*32
+* status             0 (success)
+* severity           0 (information)
+  image              2.0.0.7, 2 blocks, checks right
+";
+    let head = "firmware-download (4): 0 success
+* marks what the reply changed
+  buffer-length      1024
+  flags              00000001h (validate)
+";
+    assert_eq!(reply(&sent, &got).unwrap(), format!("{head}{rest}"));
+    let failed = |words: &str, code: u32| {
+        let line = format!("firmware-download {words} status=7 severity=3");
+        let got = request(&format!("{line} return-code={code}"));
+        reply(&request(&line), &got).unwrap()
+    };
+    let text = failed("validate blocks=2 damage=1", 1);
+    assert!(text.starts_with("firmware-download (4): 1 failed\n"));
+    assert!(text.contains("\n  flags              validate\n"));
+    assert!(text.contains("\n  status             7, as sent\n  severity           3, as sent\n"));
+    assert!(
+        text.ends_with("\n  image              0.0.0.0, 2 blocks, the check of block 1 wrong\n")
+    );
+    let text = failed("commit", 1);
+    assert!(
+        text.ends_with("\n  severity           3, as sent\n"),
+        "{text}"
+    );
+    assert!(failed("validate", 4).starts_with("firmware-download (4): 4 denied, write attempted\n"));
+    let text = linux(
+        "linux firmware-download commit status=7",
+        "linux firmware-download commit",
+    );
+    assert!(text.starts_with("linux firmware-download (4): 0 success\n"));
+    assert!(text.contains("\n* status             0 (success)\n"));
+}
+
+/// Status and severity of a refusal are what was sent, and say nothing.
+#[test]
+fn a_refused_image_in_words() {
+    for code in [1, 3, 4] {
+        let line = "firmware-download validate";
+        let got = request(&format!("{line} return-code={code}"));
+        let text = reply(&request(line), &got).unwrap();
+        assert!(
+            text.contains("\n  status             0, as sent\n  severity           0, as sent\n")
+        );
+        assert!(!text.contains("success") && !text.contains("information"));
+    }
+    let got = request("firmware-download commit return-code=1 status=2");
+    let text = reply(&request("firmware-download commit"), &got).unwrap();
+    assert!(
+        text.contains("\n* status             using-rrom\n"),
+        "{text}"
+    );
+    let text = linux(
+        "linux get-cntlr-status status=good",
+        "linux get-cntlr-status status=good return-code=3",
+    );
+    assert!(text.contains("\n  status             good\n"), "{text}");
+}
+
+/// The image ends at uBufferLength, and bytes without the flag are none.
+#[test]
+fn bytes_that_are_no_image() {
+    let shown = |words: &str| {
+        let sent = request(&format!("firmware-download {words}"));
+        let text = reply(&sent, &sent).unwrap();
+        let (_, rows) = text.split_once("(information)\n").unwrap();
+        rows.to_string()
+    };
+    let image = "  image              0.0.0.0, 2 blocks, checks right\n";
+    assert_eq!(
+        shown("validate blocks=3 damage=2 buffer-length=1024"),
+        format!("{image}  data               00*508+04000000\n")
+    );
+    assert_eq!(shown("validate blocks=2 buffer-length=4294967295"), image);
+    assert_eq!(
+        shown("validate buffer-length=0"),
+        "  data               00*508+01000000\n"
+    );
+    assert_eq!(shown("commit data=5A*512"), "  data               5A*512\n");
+    assert_eq!(shown("flags=validate"), "");
+    let sent = request("firmware-download validate blocks=2 buffer-length=512");
+    let mut got = sent.clone();
+    *got.last_mut().unwrap() ^= 1;
+    let text = reply(&sent, &got).unwrap();
+    assert!(text.contains("\n  image              0.0.0.0, 1 block, checks right\n* data  "));
+}

@@ -2,7 +2,9 @@
 //! the state holds has its place in one reply.
 
 use super::{Header, FIRST, LINUX};
-use crate::tests::adapter::{self, answer_of, cut, file, largest, medium, sample, sample_at};
+use crate::tests::adapter::{
+    self, answer_of, cut, file, largest, medium, sample, sample_at, stage,
+};
 use crate::{denied, open, State};
 
 const CODES: [u32; 3] = [2, 3, 30];
@@ -35,7 +37,9 @@ fn size(code: u32) -> usize {
 fn reply(header: &Header, state: &State, medium: &[u8], code: u32) -> Vec<u8> {
     let sent = (header.buffer)(code, &vec![0xCC; size(code)]);
     let (mut after, mut disk, mut buffer) = (state.clone(), medium.to_vec(), sent.clone());
-    let number = (header.request)(&mut after, &mut disk, code, &mut buffer);
+    let mut lent = stage();
+    let number = (header.request)(&mut after, &mut disk, &mut lent, code, &mut buffer);
+    assert_eq!(lent, stage());
     assert_eq!((number, header.return_code(&buffer)), (0, 0));
     assert_eq!((&after, &disk[..]), (state, medium));
     buffer.split_off(header.size)
@@ -58,11 +62,17 @@ fn each_reply_whole() {
                         let expected = header.with_code(expected, 0);
 
                         let (mut after, mut disk_after) = (state.clone(), disk.clone());
-                        let mut buffer = sent;
-                        let number =
-                            (header.request)(&mut after, &mut disk_after, code, &mut buffer);
+                        let (mut lent, mut buffer) = (stage(), sent);
+                        let number = (header.request)(
+                            &mut after,
+                            &mut disk_after,
+                            &mut lent,
+                            code,
+                            &mut buffer,
+                        );
                         assert_eq!((number, buffer), (0, expected), "code {code}");
                         assert_eq!((&after, &disk_after), (&state, &disk));
+                        assert_eq!(lent, stage());
                     }
                 }
             }
@@ -77,13 +87,13 @@ fn none_is_denied() {
         let sent = adapter::buffer(code, &vec![0xCC; size(code)]);
         for level in 0..=3 {
             let mut state = sample_at(level);
-            assert_eq!(denied(&state, &medium(5), &sent), level == 0);
+            assert_eq!(denied(&state, &medium(5), &stage(), &sent), level == 0);
             let expected = if level == 0 { 4 } else { 0 };
             assert_eq!(answer_of(&mut state, &mut sent.clone()), expected);
         }
         // one byte short is not denied, but refused
         let short = adapter::buffer(code, &vec![0xCC; size(code) - 1]);
-        assert!(!denied(&sample_at(0), &medium(5), &short));
+        assert!(!denied(&sample_at(0), &medium(5), &stage(), &short));
         assert_eq!(answer_of(&mut sample_at(0), &mut short.clone()), 3);
     }
 }

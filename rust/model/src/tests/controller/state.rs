@@ -1,7 +1,7 @@
 //! The rules of a state's connectors, 107; its configuration and status are free.
 
 use super::{FIRST, LINUX, PINOUT};
-use crate::tests::adapter::{connector, cut, largest, medium, sample};
+use crate::tests::adapter::{connector, cut, largest, medium, sample, stage};
 use crate::State;
 
 /// The number of a code 2 on the state with either header; with one that is not 0 nothing is touched.
@@ -9,7 +9,7 @@ fn number_of(state: &State, medium: &[u8]) -> u32 {
     let [first, linux] = [FIRST, LINUX].map(|header| {
         let sent = (header.buffer)(2, &[0; 176]);
         let (mut after, mut disk, mut buffer) = (state.clone(), medium.to_vec(), sent.clone());
-        let number = (header.request)(&mut after, &mut disk, 2, &mut buffer);
+        let number = (header.request)(&mut after, &mut disk, &mut stage(), 2, &mut buffer);
         assert_eq!((&after, &disk[..]), (state, medium));
         assert_eq!(number != 0, buffer == sent);
         number
@@ -94,7 +94,8 @@ fn order() {
         assert_eq!(number_of(&state, &disk), 107);
         for header in [FIRST, LINUX] {
             let (mut after, mut disk) = (state.clone(), disk.clone());
-            assert_eq!((header.request)(&mut after, &mut disk, 2, &mut []), 107);
+            let number = (header.request)(&mut after, &mut disk, &mut [], 2, &mut []);
+            assert_eq!(number, 107);
         }
     }
 }

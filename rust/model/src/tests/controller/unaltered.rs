@@ -1,8 +1,9 @@
-//! "One statement over codes 1, 2, 3, 20, 22, 26, 27, 28 and 30: none alters the state or the medium,
-//! but for the reset of W-202": with either header, at every level, granted or refused.
+//! "One statement over codes 1, 2, 3, 20, 22, 26, 27, 28 and 30: none alters the state or the
+//! medium, but for the reset of W-202", and none the stage, "which only a granted validation
+//! changes" (W-207): with either header, at every level, granted or refused.
 
 use super::{Header, FIRST, LINUX};
-use crate::tests::adapter::{largest, medium, sample};
+use crate::tests::adapter::{largest, medium, sample, stage};
 use crate::tests::arbitrary::Numbers;
 use crate::tests::header::bodies;
 use crate::State;
@@ -15,11 +16,13 @@ struct Sent {
     buffer: Vec<u8>,
 }
 
-/// Handles a request: its number, and its return code. State and medium are what the statement says.
+/// Handles a request: its number, and its return code. State, medium and stage are what the
+/// statement says.
 fn handled(header: &Header, state: &mut State, disk: &mut [u8], mut sent: Sent) -> (u32, u32) {
     let (mut expected, disk_before) = (state.clone(), disk.to_vec());
     let body = sent.buffer.get(header.size..).unwrap_or_default().to_vec();
-    let number = (header.request)(state, disk, sent.code, &mut sent.buffer);
+    let mut lent = stage();
+    let number = (header.request)(state, disk, &mut lent, sent.code, &mut sent.buffer);
     let code = match number {
         0 => header.return_code(&sent.buffer),
         _ => u32::MAX,
@@ -29,6 +32,7 @@ fn handled(header: &Header, state: &mut State, disk: &mut [u8], mut sent: Sent) 
     }
     assert_eq!(*state, expected, "code {}", sent.code);
     assert!(*disk == disk_before, "code {}", sent.code);
+    assert!(lent == stage(), "code {}", sent.code);
     (number, code)
 }
 

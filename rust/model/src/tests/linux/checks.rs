@@ -3,7 +3,7 @@
 
 use super::{answer, buffer};
 use crate::request_linux;
-use crate::tests::adapter::{buffer as first_buffer, fis, medium, passthrough, sample};
+use crate::tests::adapter::{buffer as first_buffer, fis, medium, passthrough, sample, stage};
 use crate::tests::header::bodies;
 
 /// A code 21 is 28 bytes with its header, the smallest sound buffer.
@@ -19,7 +19,8 @@ fn a_buffer_under_20_bytes_is_100() {
     let sound = buffer(&SET_PHY_INFO);
     for length in 0..20 {
         let mut short = sound[..length].to_vec();
-        let number = request_linux(&mut sample(), &mut medium(5), 21, &mut short);
+        let (mut disk, mut stage) = (medium(5), stage());
+        let number = request_linux(&mut sample(), &mut disk, &mut stage, 21, &mut short);
         assert_eq!((number, &short[..]), (100, &sound[..length]));
     }
 }
@@ -35,7 +36,7 @@ fn buffers_of_20_to_28_bytes() {
         }
     }
     assert_eq!(answer(21, &mut sound.clone()), 0);
-    for control in [1, 2, 3, 20, 22, 25, 26, 27, 28, 30] {
+    for control in [1, 2, 3, 4, 20, 22, 25, 26, 27, 28, 30] {
         assert_eq!(answer(control, &mut sound.clone()), 3);
     }
     // no body at all

@@ -1,14 +1,15 @@
 //! Which codes are known, and that each is served at every level.
 
 use super::{answer, buffer, code_of};
-use crate::tests::adapter::{fis, medium, passthrough, sample, sample_at};
+use crate::tests::adapter::{fis, medium, passthrough, sample, sample_at, stage};
 use crate::tests::header::bodies;
 
 /// The numbers that Linux's own ioctl calls have for the codes served (section 10).
-const IOCTL: [u32; 11] = [
+const IOCTL: [u32; 12] = [
     0xCC77_0001,
     0xCC77_0002,
     0xCC77_0003,
+    0xCC77_0004,
     0xCC77_0014,
     0xCC77_0015,
     0xCC77_0016,
@@ -22,7 +23,7 @@ const IOCTL: [u32; 11] = [
 #[test]
 fn unknown_codes() {
     let others = [257, 0x0100_0001, 0x1500_0000, 0x8000_0015, u32::MAX];
-    let known = |code: &u32| matches!(code, 1..=3 | 20..=22 | 25..=28 | 30);
+    let known = |code: &u32| matches!(code, 1..=4 | 20..=22 | 25..=28 | 30);
     let unknown = (0..300).filter(|code| !known(code));
     for code in unknown.chain(others).chain(IOCTL) {
         assert_eq!(answer(code, &mut buffer(&[0; 2052])), 2, "{code:x}");
@@ -52,6 +53,7 @@ fn each_code_at_each_level() {
             let code = code_of(
                 &mut sample_at(level),
                 &mut medium(5),
+                &mut stage(),
                 control,
                 &mut buffer(&body),
             );
@@ -66,7 +68,9 @@ fn code_21_at_each_level() {
     for level in 0..=3 {
         let mut state = sample_at(level);
         let mut sent = buffer(&[0, 1, 9, 9, 3, 0, 0, 0]);
-        assert_eq!(code_of(&mut state, &mut medium(5), 21, &mut sent), 0);
+        let (mut disk, mut stage) = (medium(5), stage());
+        let code = code_of(&mut state, &mut disk, &mut stage, 21, &mut sent);
+        assert_eq!(code, 0);
         let mut expected = sample_at(level);
         expected.phys[0].entity[21] = 3;
         expected.phys[0].entity[29..32].copy_from_slice(&[1, 0x98, 0x99]);
@@ -78,9 +82,10 @@ fn code_21_at_each_level() {
 #[test]
 fn code_25_writes_at_each_level() {
     for level in 0..=3 {
-        let (mut state, mut disk) = (sample_at(level), medium(5));
+        let (mut state, mut disk, mut stage) = (sample_at(level), medium(5), stage());
         let mut write = buffer(&passthrough(fis(0x30, 14, 2), &[0x99; 1024]));
-        assert_eq!(code_of(&mut state, &mut disk, 25, &mut write), 0);
+        let code = code_of(&mut state, &mut disk, &mut stage, 25, &mut write);
+        assert_eq!(code, 0);
         let mut expected = medium(5);
         expected[14 * 512..16 * 512].fill(0x99);
         assert_eq!((&state, &disk), (&sample_at(level), &expected));
@@ -88,7 +93,8 @@ fn code_25_writes_at_each_level() {
         assert_eq!(write[68..72], [0x34, 0, 0x50, 0]);
         assert_eq!(write[152..156], [0, 4, 0, 0]);
         let mut read = buffer(&passthrough(fis(0x20, 15, 1), &[0; 512]));
-        assert_eq!(code_of(&mut state, &mut disk, 25, &mut read), 0);
+        let code = code_of(&mut state, &mut disk, &mut stage, 25, &mut read);
+        assert_eq!(code, 0);
         assert_eq!(read[156..], [0x99; 512]);
     }
 }
@@ -98,7 +104,8 @@ fn code_25_writes_at_each_level() {
 fn each_command_at_none() {
     for command in 0..=255 {
         let mut sent = buffer(&passthrough(fis(command, 0, 1), &[0; 512]));
-        let code = code_of(&mut sample_at(0), &mut medium(5), 25, &mut sent);
+        let (mut state, mut disk, mut stage) = (sample_at(0), medium(5), stage());
+        let code = code_of(&mut state, &mut disk, &mut stage, 25, &mut sent);
         assert_eq!(code, 0, "{command:x}");
         let status = match command {
             0x20 | 0x30 | 0xEC | 0xE5 => 0x50,
@@ -113,7 +120,8 @@ fn each_command_at_none() {
 fn own_checks_at_none() {
     let of = |control, body: &[u8]| {
         let mut sent = buffer(body);
-        code_of(&mut sample_at(0), &mut medium(5), control, &mut sent)
+        let (mut state, mut disk, mut stage) = (sample_at(0), medium(5), stage());
+        code_of(&mut state, &mut disk, &mut stage, control, &mut sent)
     };
     assert_eq!(of(21, &[5, 9, 9, 9, 9, 0, 0, 0]), 2002);
     assert_eq!(of(21, &[3, 9, 7, 7, 9, 0, 0, 0]), 2000);

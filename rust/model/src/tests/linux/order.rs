@@ -1,12 +1,13 @@
-//! The order of the checks: state, medium, buffer, Direction, code, Length, the code's own.
+//! The order of the checks: state, medium, stage, buffer, Direction, code, Length, the code's own.
 
 use super::{buffer, return_code};
-use crate::tests::adapter::{file, medium, sample};
+use crate::tests::adapter::{file, medium, sample, stage};
 use crate::{open, request_linux, State};
 
 struct Sent {
     state: State,
     medium: Vec<u8>,
+    stage: Vec<u8>,
     control: u32,
     buffer: Vec<u8>,
 }
@@ -20,10 +21,11 @@ enum Answer {
 type Fault = (fn(&mut Sent), Answer);
 
 /// One for each check, in their order. Direction and Length have the same code: each is told from
-/// the other by the unknown code, which stands between them.
-const FAULTS: [Fault; 7] = [
+/// the other by the unknown code, which stands between them. Medium and stage have the same number.
+const FAULTS: [Fault; 8] = [
     (|sent| sent.state.level = 4, Answer::Call(107)),
     (|sent| sent.medium.push(0), Answer::Call(106)),
+    (|sent| sent.stage.push(0), Answer::Call(106)),
     (|sent| sent.buffer.truncate(19), Answer::Call(100)),
     (|sent| sent.buffer[16] = 2, Answer::Code(3)),
     (|sent| sent.control = 24, Answer::Code(2)),
@@ -36,6 +38,7 @@ fn sound() -> Sent {
     Sent {
         state: sample(),
         medium: medium(5),
+        stage: stage(),
         control: 22,
         buffer: buffer(&[0; 20]),
     }
@@ -44,9 +47,11 @@ fn sound() -> Sent {
 /// What the request gets; with a number that is not 0 nothing is touched.
 fn answered(mut sent: Sent) -> Answer {
     let before = (sent.state.clone(), sent.medium.clone(), sent.buffer.clone());
+    let stage_before = sent.stage.clone();
     let number = request_linux(
         &mut sent.state,
         &mut sent.medium,
+        &mut sent.stage,
         sent.control,
         &mut sent.buffer,
     );
@@ -54,6 +59,7 @@ fn answered(mut sent: Sent) -> Answer {
         return Answer::Code(return_code(&sent.buffer));
     }
     assert_eq!((sent.state, sent.medium, sent.buffer), before);
+    assert_eq!(sent.stage, stage_before);
     Answer::Call(number)
 }
 
@@ -91,7 +97,7 @@ fn any_checks_together() {
             .filter(is_chosen)
             .map(|n| FAULTS[n])
             .collect();
-        assert_eq!(with(&faults), faults[0].1, "{chosen:07b}");
+        assert_eq!(with(&faults), faults[0].1, "{chosen:08b}");
     }
 }
 
@@ -104,6 +110,7 @@ fn after_a_refused_opening() {
         let sent = Sent {
             state: state.clone(),
             medium,
+            stage: stage(),
             control: 22,
             buffer,
         };

@@ -1,21 +1,22 @@
 //! "on the same adapter and medium, a request passing its header's checks gets the same return
 //! code, body, medium and state (but the level) as one with the same code and body that passes
-//! the other header's checks, at Full"; and arbitrary inputs.
+//! the other header's checks, at Full", with W-207 the same stage too; and arbitrary inputs.
 
 use super::{buffer, code_of, return_code};
-use crate::tests::adapter::{self, hold, medium, sample, sample_held};
+use crate::tests::adapter::{self, hold, medium, sample, sample_held, stage};
 use crate::tests::arbitrary::{spoil, Numbers};
 use crate::tests::header::bodies;
 use crate::{fields, request, request_linux, State};
 
-const CODES: [u32; 11] = [1, 2, 3, 20, 21, 22, 25, 26, 27, 28, 30];
+const CODES: [u32; 12] = [1, 2, 3, 4, 20, 21, 22, 25, 26, 27, 28, 30];
 
-/// A Length from the structure's end, and of code 25 its data's, to the body's.
+/// A Length from the structure's end, and of codes 4 and 25 their data's, to the body's.
 fn length(numbers: &mut Numbers, control: u32, body: &[u8]) -> u32 {
     let size = match control {
         1 => 174,
         2 => 176,
         3 => 36,
+        4 => 44 + u32::from_le_bytes(body[..4].try_into().unwrap()) as usize,
         20 => 2052,
         21 => 8,
         25 => 136 + u32::from_le_bytes(body[40..44].try_into().unwrap()) as usize,
@@ -51,8 +52,8 @@ fn body(numbers: &mut Numbers, n: usize) -> Vec<u8> {
 #[test]
 fn the_first_header_at_full() {
     let mut numbers = Numbers::new(0x5A5A_0000_1234_5678);
-    let (mut one, mut one_disk) = (sample(), medium(5));
-    let (mut other, mut other_disk) = (sample(), medium(5));
+    let (mut one, mut one_disk, mut one_stage) = (sample(), medium(5), stage());
+    let (mut other, mut other_disk, mut other_stage) = (sample(), medium(5), stage());
     let mut granted = [0; CODES.len()];
     for _ in 0..20_000 {
         let n = numbers.below(CODES.len());
@@ -71,11 +72,19 @@ fn the_first_header_at_full() {
             hold(&mut other.phys[phy]);
         }
 
-        assert_eq!(request(&mut one, &mut one_disk, &mut first), 0);
-        let code = code_of(&mut other, &mut other_disk, CODES[n], &mut linux);
+        let number = request(&mut one, &mut one_disk, &mut one_stage, &mut first);
+        assert_eq!(number, 0);
+        let code = code_of(
+            &mut other,
+            &mut other_disk,
+            &mut other_stage,
+            CODES[n],
+            &mut linux,
+        );
         assert_eq!(code, adapter::return_code(&first));
         assert_eq!(linux[20..], first[28..]);
         assert_eq!(other_disk, one_disk);
+        assert_eq!(other_stage, one_stage);
         let mut at_full = other.clone();
         at_full.level = 3;
         assert_eq!(at_full, one);
@@ -98,12 +107,13 @@ fn any_state_and_buffer() {
         }
         let length = [0, 8192, 5 * 8192, 5 * 8192, 5 * 8192][numbers.below(5)];
         let mut disk = vec![0; length];
+        let mut stage = vec![0; [0, 16_383, 16_384, 16_384][numbers.below(4)]];
         let length = numbers.below(300);
         let mut sent = numbers.bytes(length);
         let control = CODES[numbers.below(CODES.len())];
         let before = (state.clone(), sent.clone());
         let sound = fields::state_is_sound(&state);
-        let number = request_linux(&mut state, &mut disk, control, &mut sent);
+        let number = request_linux(&mut state, &mut disk, &mut stage, control, &mut sent);
         assert_eq!(sound, number != 107);
         assert!(fields::state_is_sound(&state) || number == 107);
         if number != 0 {

@@ -2,7 +2,7 @@
 
 use super::{set, FIRST, LINUX};
 use crate::request;
-use crate::tests::adapter::{medium, sample_held};
+use crate::tests::adapter::{medium, sample_held, stage};
 
 /// Each reason of a refusal. Phys 0, 3 and 4 are held, 3 is fixed.
 #[test]
@@ -58,7 +58,8 @@ fn a_refused_header_leaves_the_hold() {
         let (mut state, mut disk) = (sample_held(&[0]), medium(5));
         let mut buffer = (FIRST.buffer)(21, &[0; 8]);
         put(&mut buffer, &mut disk);
-        assert_eq!(request(&mut state, &mut disk, &mut buffer), number);
+        let answered = request(&mut state, &mut disk, &mut stage(), &mut buffer);
+        assert_eq!(answered, number);
         assert_eq!(FIRST.return_code(&buffer), code);
         assert_eq!(state, sample_held(&[0]));
     }

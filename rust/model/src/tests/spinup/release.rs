@@ -3,7 +3,7 @@
 
 use super::{set, Header, FIRST, LINUX};
 use crate::tests::adapter::{
-    address, blocks, fis, medium, passthrough, sample, sample_held, sealed, FULL,
+    address, blocks, fis, medium, passthrough, sample, sample_held, sealed, stage, FULL,
 };
 use crate::{open, State};
 
@@ -11,7 +11,7 @@ use crate::{open, State};
 fn read(header: &Header, state: &State, n: u8) -> (u32, Vec<u8>) {
     let body = read_of(n);
     let (mut after, mut disk) = (state.clone(), medium(state.p));
-    let answer = header.answer(&mut after, &mut disk, 25, &body);
+    let answer = header.answer(&mut after, &mut disk, &mut stage(), 25, &body);
     assert_eq!((&after, disk), (state, medium(state.p)));
     answer
 }
@@ -105,7 +105,7 @@ fn the_reply_whole() {
             let sent = [&(header.buffer)(21, &body)[..], &[0xEE; 9]].concat();
             let (mut state, mut disk) = (sample_held(&[0]), medium(5));
             let mut buffer = sent.clone();
-            let number = (header.request)(&mut state, &mut disk, 21, &mut buffer);
+            let number = (header.request)(&mut state, &mut disk, &mut stage(), 21, &mut buffer);
             assert_eq!((number, buffer), (0, header.with_code(sent, code)));
         }
     }

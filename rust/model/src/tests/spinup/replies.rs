@@ -2,7 +2,7 @@
 //! them releases it.
 
 use super::{Header, FIRST, LINUX};
-use crate::tests::adapter::{address, fis, medium, passthrough, sample_at, sample_held};
+use crate::tests::adapter::{address, fis, medium, passthrough, sample_at, sample_held, stage};
 use crate::tests::header::bodies;
 use crate::State;
 
@@ -13,11 +13,13 @@ fn held_at(phys: &[usize], level: u8) -> State {
     state
 }
 
-/// A request that leaves state and medium as they are: its return code, and the body afterwards.
+/// A request that leaves state, medium and stage as they are: its return code, and the body
+/// afterwards.
 fn asked(header: &Header, state: &State, code: u32, body: &[u8]) -> (u32, Vec<u8>) {
-    let (mut after, mut disk) = (state.clone(), medium(5));
-    let answer = header.answer(&mut after, &mut disk, code, body);
+    let (mut after, mut disk, mut lent) = (state.clone(), medium(5), stage());
+    let answer = header.answer(&mut after, &mut disk, &mut lent, code, body);
     assert_eq!((&after, disk), (state, medium(5)), "code {code}");
+    assert_eq!(lent, stage(), "code {code}");
     answer
 }
 
@@ -63,7 +65,7 @@ fn code_22_counts_and_keeps_the_hold() {
                 let (mut state, mut disk) = (held_at(&[0], level), medium(5));
                 let mut body = [0xCC; 20];
                 body[..2].copy_from_slice(&[0, reset]);
-                let (code, reply) = header.answer(&mut state, &mut disk, 22, &body);
+                let (code, reply) = header.answer(&mut state, &mut disk, &mut stage(), 22, &body);
                 let mut expected = held_at(&[0], level);
                 if header.size == 28 && level < lowest {
                     assert_eq!(code, 4);
@@ -137,7 +139,8 @@ fn code_25_with_every_command() {
                 let state = held_at(&[0], level);
                 assert_eq!(asked(&LINUX, &state, 25, &body).0, 2008);
                 let (code, _) = asked(&FIRST, &state, 25, &body);
-                let (free, _) = FIRST.answer(&mut sample_at(level), &mut medium(5), 25, &body);
+                let (mut state, mut disk) = (sample_at(level), medium(5));
+                let (free, _) = FIRST.answer(&mut state, &mut disk, &mut stage(), 25, &body);
                 assert_eq!(code, if free == 4 { 4 } else { 2008 });
             }
             assert_eq!(asked(&FIRST, &held_at(&[0], 3), 25, &body).0, 2008);
@@ -171,12 +174,12 @@ fn code_26_still_answers() {
     }
 }
 
-/// Every code but 21 and 25 answers as without the hold, but for the byte that code 20 shows.
+/// Every code but 4, 21 and 25 answers as without the hold, but for the byte that code 20 shows.
 #[test]
 fn the_other_codes() {
     for header in [FIRST, LINUX] {
         for (code, body) in bodies() {
-            if matches!(code, 21 | 25) {
+            if matches!(code, 4 | 21 | 25) {
                 continue;
             }
             for level in 0..=3 {

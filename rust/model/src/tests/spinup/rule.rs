@@ -3,7 +3,7 @@
 
 use super::{cases, FIRST, LINUX};
 use crate::link::rule_of;
-use crate::tests::adapter::{blocks, cut, medium, sealed, FULL};
+use crate::tests::adapter::{blocks, cut, medium, sealed, stage, FULL};
 use crate::{open, State};
 
 const HOLDS: [u8; 8] = [0, 1, 2, 3, 8, 9, 0x80, 0xFF];
@@ -71,7 +71,8 @@ fn in_a_state() {
                 for header in [FIRST, LINUX] {
                     let mut buffer = (header.buffer)(3, &[0; 36]);
                     let (mut after, mut medium) = (State::from_bytes(&bytes), disk.clone());
-                    let number = (header.request)(&mut after, &mut medium, 3, &mut buffer);
+                    let (request, mut stage) = (header.request, stage());
+                    let number = request(&mut after, &mut medium, &mut stage, 3, &mut buffer);
                     assert_eq!(number, expected, "{hold} {negotiated}");
                     assert!(after.to_bytes() == bytes);
                 }

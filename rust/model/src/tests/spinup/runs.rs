@@ -1,7 +1,7 @@
 //! Two runs on one adapter with a held disk: the higher is not given what the lower denies.
 
 use super::{Header, FIRST, LINUX};
-use crate::tests::adapter::{fis, medium, passthrough, sample_held};
+use crate::tests::adapter::{fis, medium, passthrough, sample_held, stage};
 
 type Sent = (Header, u32, Vec<u8>);
 
@@ -38,14 +38,15 @@ fn compare(lower: u8, higher: u8) -> Vec<u32> {
     let [mut low, mut high] = [lower, higher].map(|level| {
         let mut state = sample_held(&[0]);
         state.level = level;
-        (state, medium(5))
+        (state, medium(5), stage())
     });
     let codes = session()
         .into_iter()
         .map(|(header, code, body)| {
-            let answer = header.answer(&mut low.0, &mut low.1, code, &body);
+            let answer = header.answer(&mut low.0, &mut low.1, &mut low.2, code, &body);
             if answer.0 != 4 {
-                let other = header.answer(&mut high.0, &mut high.1, code, &body);
+                let (state, disk, stage) = (&mut high.0, &mut high.1, &mut high.2);
+                let other = header.answer(state, disk, stage, code, &body);
                 assert_eq!(answer, other, "code {code}");
             }
             answer.0

@@ -3,7 +3,7 @@
 use super::{sample_rates, FIRST, LINUX};
 use crate::denied;
 use crate::layout::state::SIZE;
-use crate::tests::adapter::{buffer, medium, sample, sample_held};
+use crate::tests::adapter::{buffer, medium, sample, sample_held, stage};
 use crate::State;
 
 /// The number of a code 3 on these bytes with either header; the state stays.
@@ -12,7 +12,7 @@ fn number_of(bytes: &[u8; SIZE], medium: &[u8]) -> u32 {
         let sent = (header.buffer)(3, &[0; 36]);
         let (mut state, mut disk) = (State::from_bytes(bytes), medium.to_vec());
         let mut buffer = sent.clone();
-        let number = (header.request)(&mut state, &mut disk, 3, &mut buffer);
+        let number = (header.request)(&mut state, &mut disk, &mut stage(), 3, &mut buffer);
         assert!(state.to_bytes() == *bytes && disk == medium);
         assert_eq!(number != 0, buffer == sent);
         number
@@ -79,10 +79,11 @@ fn order() {
             let mut state = State::from_bytes(&bytes);
             state.level = level;
             for header in [FIRST, LINUX] {
-                assert_eq!((header.request)(&mut state, &mut [], 21, &mut []), 107);
+                let number = (header.request)(&mut state, &mut [], &mut [], 21, &mut []);
+                assert_eq!(number, 107);
             }
             let sent = buffer(21, &[0; 8]);
-            assert!(!denied(&state, &medium(5), &sent));
+            assert!(!denied(&state, &medium(5), &stage(), &sent));
         }
     }
 }

@@ -1,0 +1,1 @@
+-- No definition: what is staged is in the crate `adapter`.
