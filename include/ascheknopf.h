@@ -1,5 +1,5 @@
-/* Ascheknopf, a simulator of a SAS host adapter, for programs in C and C++. `rt staticlib exports` makes the archive to link,
-   target/staticlib/libexports.a; it needs nothing but the C library.
+/* Ascheknopf, a simulator of a SAS host adapter, for programs in C and C++. `rt lib` in crates/exports makes the archive to
+   link, crates/exports/out/libexports.a; it needs nothing but the C library.
 
    The simulator is two calls: ascheknopf_open opens an adapter, and ascheknopf_request handles one request, under the first header;
    ascheknopf_request_linux does so under the Linux header. ascheknopf_run opens an adapter and handles a whole session, and

@@ -1,9 +1,12 @@
 // The blocks of an adapter file and the check at the end of each (document 01, "Adapter file").
+#![tactic(auto)]
+
 ghost use Rattle.std.specs.Prelude.{◌≡◌, ◌+◌, ◌*◌, ◌<◌, ◌≤◌, length};
 ghost use Rattle.laws.specs.Sum.{sum_to};
 ghost use Rattle.block.specs.Check.{word, check_of, sound, block_at, sound_to};
 
 // The sum of the 127 words before a block's check.
+#[tactic(auto, using(laws::specs::Sum::sum_loop), unfolding(crate::specs::Check::word))]
 fn words(block: &[u8]) -> u64
     requires { length block.now ≡ 512 }
     ensures { (result ≡ sum_to (word block.now) 127) × (result ≤ 127 * 4294967295) }
@@ -19,6 +22,7 @@ fn words(block: &[u8]) -> u64
 
 // The check of block k: its 512 bytes and its number alone give it. The bound on k says that the block has a place in a
 // slice, so that the sum fits.
+#[tactic(auto, unfolding(crate::specs::Check::check_of))]
 pub fn check(block: &[u8], k: usize) -> u32
     requires { (length block.now ≡ 512) × (512 * k < 18446744073709551616) }
     ensures { result ≡ check_of block.now k }
@@ -27,6 +31,7 @@ pub fn check(block: &[u8], k: usize) -> u32
 }
 
 // The last four bytes of block k are its check.
+#[tactic(auto, unfolding(crate::specs::Check::sound))]
 pub fn sound(block: &[u8], k: usize) -> bool
     requires { (length block.now ≡ 512) × (512 * k < 18446744073709551616) }
     ensures { result ≡ sound block.now k }
@@ -35,6 +40,7 @@ pub fn sound(block: &[u8], k: usize) -> bool
 }
 
 // The same of the block that stands in a file as its k-th.
+#[tactic(auto, unfolding(crate::specs::Check::block_at, laws::specs::Splice::part))]
 pub fn sound_at(file: &[u8], k: usize) -> bool
     requires { 512 * k + 512 ≤ length file.now }
     ensures { result ≡ sound (block_at file.now k) k }
@@ -43,6 +49,7 @@ pub fn sound_at(file: &[u8], k: usize) -> bool
 }
 
 // Each of a file's first n blocks has its check, lowest block first.
+#[tactic(auto, using(laws::specs::All::all_loop), unfolding(crate::specs::Check::sound_to))]
 pub fn all_sound(file: &[u8], n: usize) -> bool
     requires { 512 * n ≤ length file.now }
     ensures { result ≡ sound_to file.now n }

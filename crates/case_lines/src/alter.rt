@@ -10,6 +10,7 @@ use crate::{CONNECTORS, PHYS, ROWS, STAGED};
 use case_words::{field, patch};
 
 // The words from word 2 on, over zeros.
+#[tactic(auto, using(crate::proofs::LinesLaws::part_by))]
 fn put_part(part: &mut [u8], s: &[u8])
     ensures { part.new ≡ patched (zeros (length part.old)) s.now 2 }
 {
@@ -18,6 +19,7 @@ fn put_part(part: &mut [u8], s: &[u8])
 }
 
 // The same in the w bytes of the state from an index on.
+#[tactic(auto, using(crate::proofs::LinesLaws::lent_part))]
 fn put_at(state: &mut [u8], at: usize, w: usize, s: &[u8])
     requires { at + w ≤ length state.old }
     ensures { state.new ≡ splice state.old at (patched (zeros w) s.now 2) }
@@ -25,6 +27,7 @@ fn put_at(state: &mut [u8], at: usize, w: usize, s: &[u8])
     put_part(&mut state[at..at + w], s);
 }
 
+#[tactic(auto, unfolding(crate::specs::Lines::phy_line))]
 fn phy_line(state: &mut [u8], s: &[u8])
     requires { length state.old ≡ state_size }
     ensures { state.new ≡ phy_line state.old s.now }
@@ -32,6 +35,7 @@ fn phy_line(state: &mut [u8], s: &[u8])
     put_at(state, PHYS + 105 * (field(s, 1) % 32) as usize, 105, s);
 }
 
+#[tactic(auto, unfolding(crate::specs::Lines::row_line))]
 fn row_line(state: &mut [u8], s: &[u8])
     requires { length state.old ≡ state_size }
     ensures { state.new ≡ row_line state.old s.now }
@@ -39,6 +43,7 @@ fn row_line(state: &mut [u8], s: &[u8])
     put_at(state, ROWS + 20 * (field(s, 1) % 64) as usize, 20, s);
 }
 
+#[tactic(auto, unfolding(crate::specs::Lines::connector_line))]
 fn connector_line(state: &mut [u8], s: &[u8])
     requires { length state.old ≡ state_size }
     ensures { state.new ≡ connector_line state.old s.now }
@@ -46,6 +51,7 @@ fn connector_line(state: &mut [u8], s: &[u8])
     put_at(state, CONNECTORS + 36 * (field(s, 1) % 32) as usize, 36, s);
 }
 
+#[tactic(auto, using(crate::proofs::LinesLaws::staged_by))]
 fn staged_line(state: &mut [u8], s: &[u8])
     requires { length state.old ≡ state_size }
     ensures { state.new ≡ staged_line state.old s.now }
@@ -54,6 +60,7 @@ fn staged_line(state: &mut [u8], s: &[u8])
     state[STAGED] = (field(s, 1) % 256) as u8;
 }
 
+#[tactic(auto, using(crate::proofs::LinesLaws::count_by))]
 fn count_line(state: &mut [u8], s: &[u8])
     requires { length state.old ≡ state_size }
     ensures { state.new ≡ count_line state.old s.now }
@@ -64,6 +71,7 @@ fn count_line(state: &mut [u8], s: &[u8])
 }
 
 // The state after a line of the letter c; a line of another letter changes nothing.
+#[tactic(auto, using(laws::specs::Choice::picks), unfolding(crate::specs::Lines::damaged))]
 pub fn damage(state: &mut [u8], s: &[u8], c: u8)
     requires { length state.old ≡ state_size }
     ensures { state.new ≡ damaged state.old s.now c }

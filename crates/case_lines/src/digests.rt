@@ -5,6 +5,7 @@ ghost use Rattle.case_lines.specs.Digest.{mix, steps, digest_of, counters_digest
 
 use crate::{PHYS, ROWS};
 
+#[tactic(auto, unfolding(crate::specs::Digest::mix))]
 fn mixed(d: u64, n: u32) -> u64
     ensures { result ≡ mix d n }
 {
@@ -18,6 +19,7 @@ fn mixed_byte(d: u64, b: u8) -> u64
 }
 
 // The bytes of s after what came before.
+#[tactic(auto, using(crate::proofs::DigestLaws::steps_loop))]
 pub fn digest(before: u64, s: &[u8]) -> u64
     ensures { result ≡ digest_of before s.now }
 {
@@ -31,6 +33,7 @@ pub fn digest(before: u64, s: &[u8]) -> u64
 }
 
 // The four counters of a phy, each a number.
+#[tactic(auto, unfolding(crate::specs::Digest::counters_digest))]
 fn mixed_counters(d: u64, phy: &[u8]) -> u64
     requires { length phy.now ≡ 105 }
     ensures { result ≡ counters_digest d phy.now }
@@ -40,6 +43,7 @@ fn mixed_counters(d: u64, phy: &[u8]) -> u64
 }
 
 // A phy, its counters behind its other bytes.
+#[tactic(auto, unfolding(laws::specs::Splice::part, crate::specs::Digest::phy_digest))]
 fn mixed_phy(before: u64, phy: &[u8]) -> u64
     requires { length phy.now ≡ 105 }
     ensures { result ≡ phy_digest before phy.now }
@@ -47,6 +51,7 @@ fn mixed_phy(before: u64, phy: &[u8]) -> u64
     mixed_counters(digest(digest(before, &phy[0..64]), &phy[80..105]), phy)
 }
 
+#[tactic(auto, using(crate::proofs::DigestLaws::steps_loop))]
 fn mixed_phys(before: u64, phys: &[u8]) -> u64
     requires { length phys.now ≡ 3360 }
     ensures { result ≡ steps (phy_step phys.now) before 32 }
@@ -61,6 +66,7 @@ fn mixed_phys(before: u64, phys: &[u8]) -> u64
 }
 
 // The level, the counts and the driver info, the phys, and what stands behind them: rows, configuration, status, connectors and what is staged.
+#[tactic(auto, using(crate::proofs::DigestLaws::state_by), unfolding(laws::specs::Splice::part))]
 pub fn state_digest(state: &[u8]) -> u64
     requires { length state.now ≡ state_size }
     ensures { result ≡ state_digest state.now }

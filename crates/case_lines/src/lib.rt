@@ -1,4 +1,6 @@
 // What the lines of a test program's input leave in a state, and the digests that are printed of slices and states. `request_cases` is the program.
+#![tactic(auto)]
+
 mod alter;
 mod digests;
 

@@ -1,9 +1,12 @@
 // A line of a test program's input: its words, their numbers, and the bytes that they put into a slice. `request_cases` is the program.
+#![tactic(auto)]
+
 ghost use Rattle.std.specs.Prelude.{◌≡◌, ◌+◌, ◌-◌, ◌*◌, ◌%◌, ◌≤◌, length, drop};
 ghost use Rattle.case_words.specs.Fields.{index_of, behind, from_word, is_digit, digit_of, number_of, field_of};
 ghost use Rattle.case_words.specs.Patch.{hex_byte, bytes_of, fits, put, put_word, patched};
 
 // The index of the first byte c from an index on, or the end.
+#[tactic(auto, using(crate::proofs::FieldsLaws::cut_loop))]
 pub fn end(s: &[u8], from: usize, c: u8) -> usize
     requires { from ≤ length s.now }
     ensures { (result ≡ index_of s.now from c) × (from ≤ result) × (result ≤ length s.now) }
@@ -19,6 +22,7 @@ pub fn end(s: &[u8], from: usize, c: u8) -> usize
 }
 
 // The index behind it, or the end.
+#[tactic(auto, using(crate::proofs::FieldsLaws::cut_loop))]
 fn past(s: &[u8], from: usize, c: u8) -> usize
     requires { from ≤ length s.now }
     ensures { (result ≤ length s.now) × (drop result s.now ≡ behind c (drop from s.now)) }
@@ -31,6 +35,7 @@ fn past(s: &[u8], from: usize, c: u8) -> usize
 }
 
 // Where word k starts, counting from 0, or the end.
+#[tactic(auto, using(crate::proofs::FieldsLaws::cut_loop))]
 pub fn word(s: &[u8], k: usize) -> usize
     ensures { (result ≤ length s.now) × (drop result s.now ≡ from_word s.now k) }
 {
@@ -65,6 +70,7 @@ fn with_digit(value: u32, c: u8) -> u32
 }
 
 // The decimal number that a word begins with, modulo 4,294,967,296.
+#[tactic(auto, using(crate::proofs::FieldsLaws::number_loop))]
 fn number(w: &[u8]) -> u32
     ensures { result ≡ number_of w.now }
 {
@@ -83,6 +89,7 @@ fn number(w: &[u8]) -> u32
 }
 
 // The number that word k is.
+#[tactic(auto, using(crate::proofs::FieldsLaws::field_by))]
 pub fn field(s: &[u8], k: usize) -> u32
     ensures { result ≡ field_of s.now k }
 {
@@ -98,6 +105,7 @@ fn byte(a: u8, b: u8) -> u8
 }
 
 // How many of n bytes fit into a slice from an index on.
+#[tactic(auto, using(crate::proofs::PatchLaws::fit_none, crate::proofs::PatchLaws::fit_room, crate::proofs::PatchLaws::fit_all))]
 fn fit(len: usize, at: usize, n: usize) -> usize
     ensures { (result ≡ fits (len - at) n) × (result ≤ len - at) × (result ≤ n) }
 {
@@ -111,6 +119,7 @@ fn fit(len: usize, at: usize, n: usize) -> usize
 }
 
 // Puts the bytes, of two digits each, that h has; what does not fit is left out.
+#[tactic(auto, using(crate::proofs::PatchLaws::patch_loop))]
 fn put_bytes(d: &mut [u8], at: usize, h: &[u8])
     ensures { d.new ≡ put d.old at (bytes_of h.now) }
 {
@@ -132,6 +141,7 @@ fn put_word(d: &mut [u8], w: &[u8])
 }
 
 // Puts the words from word k on.
+#[tactic(auto, using(crate::proofs::PatchLaws::puts_loop))]
 pub fn patch(d: &mut [u8], s: &[u8], k: usize)
     ensures { d.new ≡ patched d.old s.now k }
 {

@@ -10,13 +10,13 @@ use Rattle.laws.specs.Choice.{by_bool}
 use Rattle.laws.specs.Cases.{All}
 use Rattle.laws.specs.Runs.{log, all_noted, shown_by, undropped}
 use Rattle.tally.specs.declared.Line.{Line}
-use Rattle.tally.specs.Kinds.{LineKind, Granted, Denied, Otherwise, Short, is, line}
+use Rattle.tally.specs.Kinds.{LineKind, Granted, Denied, Otherwise, Short, is}
 use Rattle.tally.specs.Totals.{one, number_of, tally_of, Sums}
 use Rattle.tally.proofs.KindsLaws.{denied_granted, denied_otherwise, denied_short}
 use Rattle.tally.proofs.TotalsLaws.{sums, number_shown, number_alike}
 use Rattle.header.specs.Sent.{Request}
 use Rattle.dispatch.specs.Request.{Point}
-use Rattle.claims.specs.Run.{Exchange, Entry, End, entry_of, step, denied, run, opened_at, exchanges, not_denied}
+use Rattle.claims.specs.Run.{Exchange, Entry, End, entry_of, step, run, opened_at, exchanges, not_denied}
 use Rattle.claims.specs.LastWriter.{granted}
 use Rattle.claims.specs.Claim.{lower_run, higher_run}
 use Rattle.claims.specs.Lines.{line_of, lines_of}

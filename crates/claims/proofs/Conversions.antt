@@ -10,7 +10,7 @@ use borrow.Author.Tests.{le-ltb, lt-ltb, eqb-true, eqb-false, ltb-true}
 use Rattle.laws.specs.Choice.{by_bool, either, came_then}
 use Rattle.laws.specs.Fill.{get_or_padded}
 use Rattle.laws.specs.Splice.{part, splice, part_splice}
-use Rattle.codes.specs.Codes.{success, get_scsi_address, get_orevice_address, no_scsi_address, no_device_address}
+use Rattle.codes.specs.Codes.{success, get_scsi_address, get_device_address, no_scsi_address, no_device_address}
 use Rattle.rows.proofs.ReadLaws.{length_sas, length_os}
 use Rattle.rows.specs.Row.{Row, no_row, zero_row, row_at, rows_hold, sas_index, os_index}
 use Rattle.rows.proofs.ConversionsLaws.{sas_found, os_found, sas_own, os_own}
@@ -118,9 +118,9 @@ module _ (p : Point) (w : AcceptedRows p) where
   unfolding served report_of scsi_address reported_by
   scsi_handled r o = handled_sound p r get_scsi_address w.number o
 
-  device_handled : (r : Request) → Sound p r get_orevice_address → handled p r ≡ reported_by p r (device_report r)
+  device_handled : (r : Request) → Sound p r get_device_address → handled p r ≡ reported_by p r (device_report r)
   unfolding served report_of device_address reported_by
-  device_handled r o = handled_sound p r get_orevice_address w.number o
+  device_handled r o = handled_sound p r get_device_address w.number o
 
   hold : rows_hold rows a ≡ true
   hold = rows_hold_lem p.state.adapter (tables_hold_lem p.state (number_state p.state (length p.store.medium) (length p.store.stage) w.number))
@@ -129,7 +129,7 @@ module _ (p : Point) (w : AcceptedRows p) where
   scsi_stays : (q : Request) → Sound p q get_scsi_address → step p q ≡ p
   scsi_stays q o = ap (λ (x : Outcome). x.point) (scsi_handled q o) ∙ reported_stays p q (scsi_report q)
 
-  device_stays : (q : Request) → Sound p q get_orevice_address → step p q ≡ p
+  device_stays : (q : Request) → Sound p q get_device_address → step p q ≡ p
   device_stays q o = ap (λ (x : Outcome). x.point) (device_handled q o) ∙ reported_stays p q (device_report q)
 
   both_ways : RoundTrip p
@@ -143,13 +143,13 @@ module _ (p : Point) (w : AcceptedRows p) where
             let v = shown p q oq.long i a 16 (row_at rows i).os no_scsi_address (omega arith) (omega arith) l (omega (arith, room q get_scsi_address oq refl)) in
             let x : part (body_of r) 0 4 ≡ (row_at rows i).os = e ∙ rw (scsi_handled q oq) (rw (w.os i l) at v.1) in
             let j : os_index rows a (part (body_of r) 0 4) ≡ i = rw x (os_own rows a i hold l) in
-            let u = shown p r or.long i a 4 (row_at rows i).sas no_device_address (omega arith) (omega arith) l (omega (arith, room r get_orevice_address or refl)) in
+            let u = shown p r or.long i a 4 (row_at rows i).sas no_device_address (omega arith) (omega arith) l (omega (arith, room r get_device_address or refl)) in
             rw (scsi_stays q oq, device_handled r or, j) (u.0, rw (w.sas i l) at u.1 ∙ sas_found rows a key l);
         os = λ q r oq or g e.
             let key : List ℕ = part (body_of q) 0 4 in
             let i : ℕ = os_index rows a key in
             let l : i < a = found p q oq.long i a 4 (row_at rows i).sas no_device_address (omega arith) (omega arith) (rw (device_handled q oq) at g) in
-            let v = shown p q oq.long i a 4 (row_at rows i).sas no_device_address (omega arith) (omega arith) l (omega (arith, room q get_orevice_address oq refl)) in
+            let v = shown p q oq.long i a 4 (row_at rows i).sas no_device_address (omega arith) (omega arith) l (omega (arith, room q get_device_address oq refl)) in
             let x : part (body_of r) 0 16 ≡ (row_at rows i).sas = e ∙ rw (device_handled q oq) (rw (w.sas i l) at v.1) in
             let j : sas_index rows a (part (body_of r) 0 16) ≡ i = rw x (sas_own rows a i hold l) in
             let u = shown p r or.long i a 16 (row_at rows i).os no_scsi_address (omega arith) (omega arith) l (omega (arith, room r get_scsi_address or refl)) in

@@ -41,7 +41,8 @@ use Rattle.dispatch.specs.Request.{Point, point, Outcome, state_number, buffer_n
 use Rattle.claims.specs.Run.{Exchange, Entry, reply_of, exchange_of, step, entry_of, run, opened_at, whole_run, exchanges, requests_in, not_denied, denial}
 use Rattle.claims.specs.LastWriter.{told_by, Writer, after, last, Sector, sector_in, sector_writer, selects_by, rate_writer}
 use Rattle.claims.specs.Claim.{LastWriterHalf, OneRun, given_both, higher_run, Claim}
-use Rattle.claims.proofs.Steps.{denied_step, linux_given, level_kept, Same, same_step}
+use Rattle.claims.proofs.Steps.{denied_step, linux_given, level_kept}
+use Rattle.claims.proofs.HigherSteps.{Same, same_step}
 use Rattle.claims.proofs.Moved.{Sized}
 use Rattle.claims.proofs.Effect.{selects_in}
 use Rattle.claims.proofs.Reached.{request_effect, Reached, sized_reached, reached_step, reached_start, reached}

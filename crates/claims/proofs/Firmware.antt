@@ -1,10 +1,9 @@
 -- The proof of what is claimed of firmware. Assumes nothing.
 use mathlib.Core.Path.{◌≡◌, refl, sym, ◌∙◌, ap, ap₂}
-use mathlib.Core.Bool.{Bool, true, false, cond, ◌&&◌, false≢true}
+use mathlib.Core.Bool.{Bool, false, cond, false≢true}
 use mathlib.Core.List.{List, ◌++◌}
 use Prim.Native.Nat.{ℕ, ◌≤◌}
 use native.Mathlib.Omega.{arith}
-use native.Mathlib.Decide.{ℕ_discrete}
 use lib.Dec.{eqb}
 use lib.ListN.{length, take, drop, take-append-drop}
 use borrow.Author.Tests.{eq-eqb, ne_eqb}
@@ -12,15 +11,11 @@ use Rattle.laws.specs.Choice.{by_bool}
 use Rattle.laws.specs.Runs.{log, by_log, fold_shown}
 use Rattle.codes.specs.Codes.{firmware_download, set_phy_info, get_link_errors, stp_passthru, success}
 use Rattle.download.specs.Body.{validates}
-use Rattle.contents.specs.Contents.{adapter_of}
-use Rattle.adapter.specs.Staged.{nothing_staged}
-use Rattle.adapter.specs.Adapter.{Adapter, with_phy, with_firmware, made_current, zero_adapter}
+use Rattle.adapter.specs.Adapter.{Adapter, with_phy, with_firmware, made_current}
 use Rattle.adapter.specs.Changed.{Changed}
-use Rattle.firmware.specs.Firmware.{Downloaded, downloads, beside_stage, load_firmware, validated, committed, validation, commit, buffer_length_holds, image_sound}
+use Rattle.firmware.specs.Firmware.{Downloaded, downloads, beside_stage, load_firmware, validated, committed, validation, buffer_length_holds, image_sound}
 use Rattle.firmware.proofs.Laws.{download_by}
-use Rattle.state.specs.State.{State, state_with, zero_state}
-use Rattle.state.specs.Open.{opened_of}
-use Rattle.state.proofs.AcceptedLaws.{open_accepted}
+use Rattle.state.specs.State.{State, state_with}
 use Rattle.service.specs.Serve.{Store, store_of, Served, changed, downloaded, served}
 use Rattle.header.specs.Form.{behind_header, with_code}
 use Rattle.header.proofs.FormLaws.{body_shown_lem}
@@ -29,25 +24,12 @@ use Rattle.header.specs.Sent.{Request, form_of, control_of, body_of, checks_code
 use Rattle.dispatch.specs.Request.{Point, point, Outcome, call_number, served_request, refused_request, answered, replied, answered_at, handled}
 use Rattle.claims.specs.Run.{Exchange, Entry, exchange_of, step, entry_of}
 use Rattle.claims.specs.LastWriter.{Told, told_by}
-use Rattle.claims.specs.Firmware.{Firmware, firmware_at, with_firmware_at, after_validation, after_commit, firmware_after, FirmwareReply, SameButStage, FirmwareClaim}
+use Rattle.claims.specs.Firmware.{firmware_at, with_firmware_at, firmware_after, FirmwareReply, SameButStage, FirmwareClaim}
 use Rattle.claims.proofs.Steps.{alike}
 use Rattle.claims.proofs.Ways.{served_by, reply_with, handled_by, told_of, told_number, told_refused, told_served}
 use Rattle.claims.proofs.PhyEffects.{set_by, errors_by}
-use Rattle.claims.proofs.Demand3.{opened_zero}
-
--- ---- what writes none
-
-module _ (t : Told) (f : Firmware) where
-  -- what was not granted
-  none_refused : t.granted ≡ false → f ≡ firmware_after t f
-  unfolding firmware_after
-  none_refused g = rw g refl
-
-  -- another code
-  none_other : (t.control ≡ firmware_download → ⊥) → f ≡ firmware_after t f
-  unfolding firmware_after
-  none_other n =
-      rw (ne_eqb t.control firmware_download n) (by_bool (λ (g : Bool). f ≡ cond (g && false) (cond (validates t.body) (after_validation f t.body) (after_commit f)) f) refl refl t.granted)
+use Rattle.claims.proofs.FirmwareNone.{none_refused, none_other}
+use Rattle.claims.proofs.FirmwareOpening.{opened_none}
 
 -- ---- a request
 
@@ -206,16 +188,6 @@ module _ (s : State) (medium stage other : List ℕ) (r : Request) where
   unfolding handled
   handled_same e =
       rw e (alike SameButStage (eqb (call_number two r) 0) (λ _. answered_same) (record { call = refl; state = refl; medium = refl; buffer = refl }))
-
--- ---- an opening
-
-opened_none : (text file medium : List ℕ) → (opened_of text file medium).state.adapter.staged ≡ nothing_staged
-unfolding adapter_of zero_state zero_adapter
-opened_none text file medium = at (ℕ_discrete (opened_of text file medium).call 0)
-  where
-    at : Dec ((opened_of text file medium).call ≡ 0) → (opened_of text file medium).state.adapter.staged ≡ nothing_staged
-    at (yes e) = rw (open_accepted text file medium e).opened refl
-    at (no n) = rw (opened_zero text file medium n) refl
 
 -- ---- the claim
 

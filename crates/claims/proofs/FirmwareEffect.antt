@@ -17,7 +17,7 @@ use Rattle.service.specs.Serve.{Store, with_stage, downloaded}
 use Rattle.claims.specs.LastWriter.{Told, sector_writer, rate_writer}
 use Rattle.claims.specs.SpinUp.{spinup_writer}
 use Rattle.claims.proofs.Moved.{moved_firmware, firmware_holds}
-use Rattle.claims.proofs.Effect.{OnTables, OnStore, Effect, Does, selects_in, quiet_other, no_effect}
+use Rattle.claims.proofs.Effect.{OnTables, OnStore, Does, selects_in, quiet_other, no_effect}
 
 -- other firmware staged or running: what is written of a phy stays
 firmware_tables : (ad : Adapter) (t : Told) (controller : List ℕ) (staged : Staged) → (t.control ≡ set_phy_info → ⊥) → staged_holds staged ≡ true

@@ -1,5 +1,6 @@
 -- The proofs of what is claimed, and what they go by.
 pub mod Steps
+pub mod HigherSteps
 pub mod Ways
 pub mod Moved
 pub mod Effect
@@ -11,8 +12,13 @@ pub mod Demand3
 pub mod Conversions
 pub mod Sameness
 pub mod PastBoth
+pub mod FirstHeader
+pub mod ReadOnlySteps
 pub mod ReadOnly
+pub mod ReportingLeft
 pub mod Reporting
+pub mod FirmwareNone
+pub mod FirmwareOpening
 pub mod Firmware
 pub mod SpinUp
 pub mod OwnCodes

@@ -6,7 +6,7 @@ use lib.Dec.{eqb, ltb}
 use lib.ListN.{get_or}
 use Rattle.laws.specs.Splice.{part}
 use Rattle.laws.specs.Choice.{either}
-use Rattle.codes.specs.Codes.{get_orriver_info, get_cntlr_config, get_cntlr_status, get_phy_info, get_sata_signature, get_scsi_address, get_orevice_address, get_connector_info}
+use Rattle.codes.specs.Codes.{get_driver_info, get_cntlr_config, get_cntlr_status, get_phy_info, get_sata_signature, get_scsi_address, get_device_address, get_connector_info}
 use Rattle.phy.specs.Entity.{is_sata}
 use Rattle.rows.specs.Row.{sas_index, os_index}
 use Rattle.adapter.specs.Adapter.{Adapter, phy_in}
@@ -48,14 +48,14 @@ signature_own ad body =
 report_own : (ad : Adapter) (control : ℕ) (body : List ℕ) → OwnReport (report_of ad control body)
 unfolding report_of driver_info controller_config controller_status phy_info scsi_address device_address converted connector_info
 report_own ad control body =
-    either OwnReport (eqb control get_orriver_info) success_own
+    either OwnReport (eqb control get_driver_info) success_own
     (either OwnReport (eqb control get_cntlr_config) success_own
     (either OwnReport (eqb control get_cntlr_status) success_own
     (either OwnReport (eqb control get_phy_info) success_own
     (either OwnReport (eqb control get_sata_signature) (signature_own ad body)
     (either OwnReport (eqb control get_scsi_address)
     (either OwnReport (ltb (sas_index ad.rows ad.row_count (part body 0 16)) ad.row_count) success_own (omega arith, λ e. omega arith))
-    (either OwnReport (eqb control get_orevice_address)
+    (either OwnReport (eqb control get_device_address)
     (either OwnReport (ltb (os_index ad.rows ad.row_count (part body 0 4)) ad.row_count) success_own (omega arith, λ e. omega arith))
     (either OwnReport (eqb control get_connector_info) success_own (omega arith, λ e. omega arith))))))))
 

@@ -14,7 +14,6 @@ use Rattle.wire.specs.Number.{number, bytes}
 use Rattle.wire.specs.Same.{same_bytes}
 use Rattle.wire.proofs.NumberLaws.{number_bytes}
 use Rattle.wire.proofs.SameLaws.{same_refl}
-use Rattle.header.specs.Form.{srb}
 use Rattle.control_codes.specs.Table.{known, structure_size, data_size, signed_all, csmi_all, csmi_sas}
 use Rattle.header.specs.Srb.{header_length, signature, control_code, length_field, srb_body, signature_holds, length_holds, code_checked, srb_code}
 use Rattle.header.specs.Linux.{linux_length, direction, linux_body, direction_holds, linux_length_holds, linux_code}

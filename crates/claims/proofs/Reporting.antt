@@ -1,7 +1,7 @@
 -- The proof that the codes that report leave state, medium and stage as they were, but for the reset of counters, and that each code that is served is
 -- in one of the two lists. Assumes nothing.
 use mathlib.Core.Path.{◌≡◌, refl}
-use mathlib.Core.Bool.{Bool, true, false, cond, ◌&&◌, false≢true}
+use mathlib.Core.Bool.{Bool, true, false, ◌&&◌, false≢true}
 use mathlib.Core.List.{List, [], ◌∷◌, ◌++◌}
 use Prim.Native.Nat.{ℕ, ◌≤◌}
 use native.Mathlib.Omega.{arith}
@@ -9,7 +9,7 @@ use lib.Dec.{eqb}
 use lib.ListN.{length, get_or}
 use borrow.Author.Tests.{eq-eqb, ne_eqb, eqb-true}
 use Rattle.laws.specs.Choice.{by_bool, both_left, both_right}
-use Rattle.codes.specs.Codes.{get_link_errors, success, reset_place, link_error_reset_counts}
+use Rattle.codes.specs.Codes.{get_link_errors, success}
 use Rattle.level.specs.Need.{among}
 use Rattle.phy.specs.Change.{cleared}
 use Rattle.adapter.specs.Adapter.{Adapter, phy_in, with_phy}
@@ -20,23 +20,11 @@ use Rattle.header.specs.Sent.{Request, form_of, control_of, body_of}
 use Rattle.service.specs.Serve.{Store, Served, changed, served}
 use Rattle.dispatch.specs.Request.{Point, Outcome}
 use Rattle.claims.specs.Run.{exchange_of}
-use Rattle.claims.specs.LastWriter.{Told, told_by}
-use Rattle.claims.specs.Reporting.{reporting, altering, resets, counters_cleared, left_by, Reporting}
+use Rattle.claims.specs.LastWriter.{told_by}
+use Rattle.claims.specs.Reporting.{reporting, altering, resets, left_by, Reporting}
 use Rattle.claims.proofs.Ways.{served_by, reply_with, handled_by, told_of, told_number, told_refused, told_served}
 use Rattle.claims.proofs.PhyEffects.{errors_by}
-
--- ---- what resets no counters
-
-module _ (p : Point) (t : Told) where
-  -- what was not granted
-  left_refused : t.granted ≡ false → p ≡ left_by p t
-  unfolding resets
-  left_refused g = rw g refl
-
-  -- another code, and a 22 with another reset byte
-  left_other : eqb t.control get_link_errors && eqb (get_or t.body reset_place 0) link_error_reset_counts ≡ false → p ≡ left_by p t
-  unfolding resets
-  left_other e = rw e (by_bool (λ (g : Bool). p ≡ cond (g && false) (counters_cleared p (get_or t.body 0 0)) p) refl refl t.granted)
+use Rattle.claims.proofs.ReportingLeft.{left_refused, left_other}
 
 -- ---- a request
 

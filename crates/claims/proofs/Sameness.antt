@@ -22,7 +22,7 @@ use Rattle.service.specs.Serve.{Store, Served, served}
 use Rattle.dispatch.specs.Request.{Outcome, buffer_number, point_number, in_buffer, answered, replied, answered_at, handled}
 use Rattle.dispatch.proofs.Laws.{number_state}
 use Rattle.claims.specs.Sameness.{PastHeader, at_level, Sameness}
-use Rattle.claims.proofs.Steps.{number_same}
+use Rattle.claims.proofs.HigherSteps.{number_same}
 
 -- ---- a request that is held to Full, and passes its header's checks, is served
 

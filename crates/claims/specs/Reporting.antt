@@ -2,7 +2,7 @@
 -- reset of W-202", nor the stage of W-207. It is said of the calls, of every state, medium, stage and request, under either header and at every level, refusals included. Assumes
 -- nothing.
 use Rattle.std.specs.Prelude.{◌≡◌, Bool, true, cond, ◌&&◌, List, [], ◌∷◌, ◌++◌, ℕ, eqb, get_or}
-use Rattle.codes.specs.Codes.{get_orriver_info, get_cntlr_config, get_cntlr_status, firmware_download, get_phy_info, set_phy_info, get_link_errors, stp_passthru, get_sata_signature, get_scsi_address, get_orevice_address, get_connector_info, reset_place, link_error_reset_counts}
+use Rattle.codes.specs.Codes.{get_driver_info, get_cntlr_config, get_cntlr_status, firmware_download, get_phy_info, set_phy_info, get_link_errors, stp_passthru, get_sata_signature, get_scsi_address, get_device_address, get_connector_info, reset_place, link_error_reset_counts}
 use Rattle.level.specs.Need.{among}
 use Rattle.phy.specs.Change.{cleared}
 use Rattle.adapter.specs.Adapter.{phy_in, with_phy}
@@ -16,14 +16,14 @@ use Rattle.claims.specs.LastWriter.{Told, told_by}
 -- the codes: another one that reports is a line more
 abbrev pub reporting : List ℕ
 reporting =
-    get_orriver_info
+    get_driver_info
     ∷ get_cntlr_config
     ∷ get_cntlr_status
     ∷ get_phy_info
     ∷ get_link_errors
     ∷ get_sata_signature
     ∷ get_scsi_address
-    ∷ get_orevice_address
+    ∷ get_device_address
     ∷ get_connector_info
     ∷ []
 

@@ -3,7 +3,7 @@
 -- bytes 0–15 and the OS bytes 16–19; in that of a 28 the OS bytes are 0–3 and the others 4–19. Assumes nothing.
 use Rattle.std.specs.Prelude.{◌≡◌, true, List, ℕ, ◌≤◌, length}
 use Rattle.laws.specs.Splice.{part}
-use Rattle.codes.specs.Codes.{success, get_scsi_address, get_orevice_address}
+use Rattle.codes.specs.Codes.{success, get_scsi_address, get_device_address}
 use Rattle.state.specs.Open.{opened_of}
 use Rattle.service.specs.Serve.{Store}
 use Rattle.header.specs.Sent.{Request, form_of, control_of, body_of, checks_code}
@@ -31,11 +31,11 @@ grants r o = granted (exchange_of r o) ≡ true
 -- one request and then the other
 pub record RoundTrip (p : Point) : Type 0 where
   -- the OS bytes that the reply to a 27 shows, sent as a 28 where the 27 left state, medium and stage, give the SAS address and LUN back
-  pub sas : (q r : Request) → Sound p q get_scsi_address → Sound p r get_orevice_address → grants q (handled p q)
+  pub sas : (q r : Request) → Sound p q get_scsi_address → Sound p r get_device_address → grants q (handled p q)
       → part (body_of r) 0 4 ≡ part (body_shown q (handled p q)) 16 4
       → grants r (handled (step p q) r) × (part (body_shown r (handled (step p q) r)) 4 16 ≡ part (body_of q) 0 16)
   -- the SAS address and LUN that the reply to a 28 shows, sent as a 27, give the OS bytes back
-  pub os : (q r : Request) → Sound p q get_orevice_address → Sound p r get_scsi_address → grants q (handled p q)
+  pub os : (q r : Request) → Sound p q get_device_address → Sound p r get_scsi_address → grants q (handled p q)
       → part (body_of r) 0 16 ≡ part (body_shown q (handled p q)) 4 16
       → grants r (handled (step p q) r) × (part (body_shown r (handled (step p q) r)) 16 4 ≡ part (body_of q) 0 4)
 

@@ -5,8 +5,8 @@ use Rattle.std.specs.Prelude.{ℕ}
 
 -- control codes
 
-abbrev pub get_orriver_info : ℕ
-get_orriver_info = 1
+abbrev pub get_driver_info : ℕ
+get_driver_info = 1
 
 abbrev pub get_cntlr_config : ℕ
 get_cntlr_config = 2
@@ -35,8 +35,8 @@ get_sata_signature = 26
 abbrev pub get_scsi_address : ℕ
 get_scsi_address = 27
 
-abbrev pub get_orevice_address : ℕ
-get_orevice_address = 28
+abbrev pub get_device_address : ℕ
+get_device_address = 28
 
 abbrev pub get_connector_info : ℕ
 get_connector_info = 30

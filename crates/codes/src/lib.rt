@@ -1,4 +1,5 @@
 // The numbers of CSMI's section 10, each said once: control codes, link rates, device types, connection status, directions, return codes, and the reset of link errors with its place. The call's own numbers are document 01's.
+#![tactic(auto)]
 
 // Control codes.
 pub const GET_DRIVER_INFO: u32 = 1;

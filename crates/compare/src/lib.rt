@@ -1,4 +1,6 @@
 // Bytes compared. Every contract is an equation with a definition of specs/.
+#![tactic(auto)]
+
 ghost use Rattle.std.specs.Prelude.{◌≡◌, ◌+◌, ◌≤◌, length};
 ghost use Rattle.laws.specs.Splice.{part};
 ghost use Rattle.compare.specs.Same.{same_bytes};
@@ -6,6 +8,7 @@ ghost use Rattle.compare.specs.Same.{same_bytes};
 use numbers::read32;
 
 // The bytes of text stand in s from index at on.
+#[tactic(auto, using(crate::proofs::SameLaws::same_past, crate::proofs::SameLaws::same_short))]
 pub fn same_at(s: &[u8], at: usize, text: &[u8]) -> bool
     ensures { result ≡ same_bytes (part s.now at (length text.now)) text.now }
 {
@@ -18,6 +21,7 @@ pub fn same_at(s: &[u8], at: usize, text: &[u8]) -> bool
     same_from(s, at, text)
 }
 
+#[tactic(auto, using(crate::proofs::SameLaws::same_loop))]
 fn same_from(s: &[u8], at: usize, text: &[u8]) -> bool
     requires { at + length text.now ≤ length s.now }
     ensures { result ≡ same_bytes (part s.now at (length text.now)) text.now }
@@ -34,6 +38,7 @@ fn same_from(s: &[u8], at: usize, text: &[u8]) -> bool
 }
 
 // The two are the same bytes.
+#[tactic(auto, using(crate::proofs::SameLaws::same_whole, crate::proofs::SameLaws::same_longer))]
 pub fn same(a: &[u8], b: &[u8]) -> bool
     ensures { result ≡ same_bytes a.now b.now }
 {
@@ -44,6 +49,7 @@ pub fn same(a: &[u8], b: &[u8]) -> bool
 }
 
 // The four bytes of s and of t at two indices are the same.
+#[tactic(auto, using(crate::proofs::WordsLaws::words_same))]
 pub fn same4(s: &[u8], at: usize, t: &[u8], from: usize) -> bool
     requires { (at + 4 ≤ length s.now) × (from + 4 ≤ length t.now) }
     ensures { result ≡ same_bytes (part s.now at 4) (part t.now from 4) }
@@ -52,6 +58,7 @@ pub fn same4(s: &[u8], at: usize, t: &[u8], from: usize) -> bool
 }
 
 // The 16 bytes.
+#[tactic(auto, using(crate::proofs::WordsLaws::sixteen_same))]
 pub fn same16(s: &[u8], at: usize, t: &[u8], from: usize) -> bool
     requires { (at + 16 ≤ length s.now) × (from + 16 ≤ length t.now) }
     ensures { result ≡ same_bytes (part s.now at 16) (part t.now from 16) }

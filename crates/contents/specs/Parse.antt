@@ -1,4 +1,4 @@
--- The bytes of the tables that a file gives (`ParseLaws.antt`: they stand for `adapterOf`). Assumes nothing.
+-- The bytes of the tables that a file gives (`ParseLaws.antt`: they stand for `adapter_of`). Assumes nothing.
 use Rattle.std.specs.Prelude.{List, [], ◌∷◌, ℕ}
 use Rattle.laws.specs.Clear.{zeros}
 use Rattle.laws.specs.Flat.{pieces}

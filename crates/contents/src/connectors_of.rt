@@ -9,6 +9,7 @@ ghost use Rattle.contents.specs.Contents.{file_connector};
 ghost use Rattle.contents.specs.Parse.{controlled, connectors_from, rest_from};
 
 // Configuration and status, which stand one behind the other in the file and in the tables.
+#[tactic(auto, unfolding(crate::specs::Parse::controlled))]
 fn fill_controller(tables: &mut [u8], file: &[u8], p: usize, a: usize)
     requires p_bound { (p ≤ 32) × (a ≤ 64) × (length file.now ≡ file_length p a) }
     requires tables_len { length tables.old ≡ tables_size }
@@ -24,6 +25,7 @@ fn fill_controller(tables: &mut [u8], file: &[u8], p: usize, a: usize)
 }
 
 // The connector of phy n, put at an index.
+#[tactic(auto, using(laws::specs::Splice::length_part, crate::proofs::ParseLaws::part_copied), unfolding(crate::specs::Contents::file_connector))]
 fn put_connector(d: &mut [u8], at: usize, file: &[u8], p: usize, a: usize, n: usize)
     requires p_bound { (p ≤ 32) × (a ≤ 64) × (n < 32) × (connector_place p a n + 36 ≤ length file.now) }
     requires at_in_bounds { at + 36 ≤ length d.old }
@@ -34,6 +36,7 @@ fn put_connector(d: &mut [u8], at: usize, file: &[u8], p: usize, a: usize, n: us
 }
 
 // Those of the first p phys, over zeros.
+#[tactic(auto, using(laws::specs::Flat::put_loop, crate::proofs::Laws::connector_within), unfolding(crate::specs::Parse::connectors_from))]
 fn connectors_over(all: &mut [u8], file: &[u8], p: usize, a: usize)
     requires p_bound { (p ≤ 32) × (a ≤ 64) × (length file.now ≡ file_length p a) }
     requires all_value { all.old ≡ zeros connectors_size }
@@ -67,6 +70,7 @@ fn fill_connectors(tables: &mut [u8], file: &[u8], p: usize, a: usize)
 }
 
 // What stands behind the rows; an opening leaves nothing staged.
+#[tactic(auto, unfolding(crate::specs::Parse::rest_from))]
 pub fn fill_rest(tables: &mut [u8], file: &[u8], p: usize, a: usize)
     requires p_bound { (p ≤ 32) × (a ≤ 64) × (length file.now ≡ file_length p a) }
     requires tables_len { length tables.old ≡ tables_size }

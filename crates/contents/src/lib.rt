@@ -1,4 +1,6 @@
 // What an adapter file holds (document 01, "Adapter file"), copied into the tables that the caller lends.
+#![tactic(auto)]
+
 mod connectors_of;
 mod phys;
 mod rows_of;
@@ -14,6 +16,7 @@ use crate::phys::fill_phys;
 use crate::rows_of::fill_rows;
 
 // The two counts and the driver info.
+#[tactic(auto, unfolding(crate::specs::Parse::headed))]
 fn fill_head(tables: &mut [u8], file: &[u8], p: u8, a: u8)
     requires in_bounds { 512 ≤ length file.now }
     requires tables_len { length tables.old ≡ tables_size }
@@ -25,6 +28,7 @@ fn fill_head(tables: &mut [u8], file: &[u8], p: u8, a: u8)
 }
 
 // The tables of a file with p phys and a rows, whatever stood in them.
+#[tactic(auto, using(crate::proofs::ParseLaws::parsed))]
 pub fn parse(tables: &mut [u8], file: &[u8], p: u8, a: u8)
     requires p_bound { (p ≤ 32) × (a ≤ 64) × (length file.now ≡ file_length p a) }
     requires tables_len { length tables.old ≡ tables_size }

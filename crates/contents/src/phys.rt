@@ -7,6 +7,7 @@ ghost use Rattle.tables.specs.Tables.{tables_size, phys_size};
 ghost use Rattle.contents.specs.Parse.{phy_from, phys_from};
 
 // The bytes of the phy that block 1 + n holds, put at an index.
+#[tactic(auto, using(crate::proofs::ParseLaws::part_copied, crate::proofs::ParseLaws::phy_length), unfolding(crate::specs::Parse::phy_from))]
 fn put_phy(d: &mut [u8], at: usize, file: &[u8], n: usize)
     requires n_bound { (n < 32) × (512 * (1 + n) + 512 ≤ length file.now) }
     requires phy_size_in_bounds { at + phy_size ≤ length d.old }
@@ -16,6 +17,7 @@ fn put_phy(d: &mut [u8], at: usize, file: &[u8], n: usize)
     wire::copy_part(d, at, file, layout::phy_place(n), phy::SIZE);
 }
 
+#[tactic(auto, using(laws::specs::Flat::put_loop), unfolding(crate::specs::Parse::phys_from))]
 fn phys_over(all: &mut [u8], file: &[u8], p: usize)
     requires p_bound { (p ≤ 32) × (512 * (1 + p) ≤ length file.now) }
     requires all_value { all.old ≡ zeros phys_size }

@@ -8,6 +8,7 @@ ghost use Rattle.tables.specs.Tables.{tables_size, rows_start};
 ghost use Rattle.contents.specs.Parse.{row_from, rows_from};
 
 // The bytes of row i of a file with p phys, put at an index.
+#[tactic(auto, using(laws::specs::Splice::length_part, crate::proofs::ParseLaws::part_copied), unfolding(crate::specs::Parse::row_from))]
 fn put_row(d: &mut [u8], at: usize, file: &[u8], p: usize, i: usize)
     requires p_bound { (p ≤ 32) × (i < 64) × (row_place p i + 20 ≤ length file.now) }
     requires at_in_bounds { at + 20 ≤ length d.old }
@@ -17,6 +18,7 @@ fn put_row(d: &mut [u8], at: usize, file: &[u8], p: usize, i: usize)
     wire::copy_part(d, at, file, layout::row_place(p, i), 20);
 }
 
+#[tactic(auto, using(laws::specs::Flat::put_loop, crate::proofs::Laws::row_within), unfolding(crate::specs::Parse::rows_from))]
 fn rows_over(all: &mut [u8], file: &[u8], p: usize, a: usize)
     requires p_bound { (p ≤ 32) × (a ≤ 64) × (length file.now ≡ file_length p a) }
     requires all_value { all.old ≡ zeros rows_size }

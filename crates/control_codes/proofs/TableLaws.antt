@@ -8,7 +8,7 @@ use native.Mathlib.Omega.{arith}
 use lib.Dec.{eqb}
 use lib.ListN.{get_or}
 use Rattle.laws.specs.Choice.{by_bool, either}
-use Rattle.codes.specs.Codes.{get_orriver_info, get_cntlr_config, get_cntlr_status, firmware_download, get_phy_info, set_phy_info, get_link_errors, stp_passthru, get_sata_signature, get_scsi_address, get_orevice_address, get_connector_info, reset_place, link_error_reset_counts}
+use Rattle.codes.specs.Codes.{get_driver_info, get_cntlr_config, get_cntlr_status, firmware_download, get_phy_info, set_phy_info, get_link_errors, stp_passthru, get_sata_signature, get_scsi_address, get_device_address, get_connector_info, reset_place, link_error_reset_counts}
 use Rattle.level.specs.declared.Level.{Level}
 use Rattle.level.specs.Text.{restricted, limited, full}
 use Rattle.level.proofs.BoundLaws.{need_bound, write_need}
@@ -40,7 +40,7 @@ download_room control k n e h l = le_trans l (room control firmware_download 44 
 pub need_full : (control : ℕ) (body : List ℕ) → (need control body).0 ≤ full.0
 unfolding need link_errors_need
 need_full control body =
-    either Within (eqb control get_orriver_info) (omega arith)
+    either Within (eqb control get_driver_info) (omega arith)
     (either Within (eqb control get_cntlr_config) (omega arith)
     (either Within (eqb control get_cntlr_status) (omega arith)
     (either Within (eqb control firmware_download) (omega arith)
@@ -50,7 +50,7 @@ need_full control body =
     (either Within (eqb control stp_passthru) (need_bound (command body))
     (either Within (eqb control get_sata_signature) (omega arith)
     (either Within (eqb control get_scsi_address) (omega arith)
-    (either Within (eqb control get_orevice_address) (omega arith)
+    (either Within (eqb control get_device_address) (omega arith)
     (either Within (eqb control get_connector_info) (omega arith) (omega arith))))))))))))
   where
     Within : Level → Type 0

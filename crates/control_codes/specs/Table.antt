@@ -1,9 +1,9 @@
 -- What each control code asks of a request: whether it is known, the size of its structure, its signature, its data and its need (document
--- 01, "Level" and "Request"; W-202, W-204, W-207). A new code is a new line in `servedCodes`, `structureSize` and `need`, and in the others where it is not as the
+-- 01, "Level" and "Request"; W-202, W-204, W-207). A new code is a new line in `served_codes`, `structure_size` and `need`, and in the others where it is not as the
 -- rest. Assumes nothing.
 use Rattle.std.specs.Prelude.{Bool, cond, ◌||◌, List, [], ◌∷◌, ◌++◌, ℕ, eqb, get_or}
 use Rattle.laws.specs.Ascii.{ascii}
-use Rattle.codes.specs.Codes.{get_orriver_info, get_cntlr_config, get_cntlr_status, firmware_download, get_phy_info, set_phy_info, get_link_errors, stp_passthru, get_sata_signature, get_scsi_address, get_orevice_address, get_connector_info, reset_place, link_error_reset_counts}
+use Rattle.codes.specs.Codes.{get_driver_info, get_cntlr_config, get_cntlr_status, firmware_download, get_phy_info, set_phy_info, get_link_errors, stp_passthru, get_sata_signature, get_scsi_address, get_device_address, get_connector_info, reset_place, link_error_reset_counts}
 use Rattle.level.specs.declared.Level.{Level}
 use Rattle.level.specs.Text.{restricted, limited, full}
 use Rattle.level.specs.Need.{among, need_of}
@@ -13,7 +13,7 @@ use Rattle.download.specs.Body.{buffer_length, image_place}
 -- "Control codes served: 1 .., 20 .., 21 .., 22 .., 25 .., 26 .., 27 .., 28 .. Every other code is unknown for now"; "Serve codes 2, 3 and 30" (W-204); "Serve code 4" (W-207)
 abbrev pub served_codes : List ℕ
 served_codes =
-    get_orriver_info
+    get_driver_info
     ∷ get_cntlr_config
     ∷ get_cntlr_status
     ∷ firmware_download
@@ -23,7 +23,7 @@ served_codes =
     ∷ stp_passthru
     ∷ get_sata_signature
     ∷ get_scsi_address
-    ∷ get_orevice_address
+    ∷ get_device_address
     ∷ get_connector_info
     ∷ []
 
@@ -33,7 +33,7 @@ known control = among control served_codes
 -- "the structure's size without header", of 25 "without bDataBuffer", and so of 4
 unfoldable pub structure_size : ℕ → ℕ
 structure_size control =
-    cond (eqb control get_orriver_info) 174
+    cond (eqb control get_driver_info) 174
     (cond (eqb control get_cntlr_config) 176
     (cond (eqb control get_cntlr_status) 36
     (cond (eqb control firmware_download) image_place
@@ -43,7 +43,7 @@ structure_size control =
     (cond (eqb control stp_passthru) data_place
     (cond (eqb control get_sata_signature) 24
     (cond (eqb control get_scsi_address) 20
-    (cond (eqb control get_orevice_address) 20
+    (cond (eqb control get_device_address) 20
     (cond (eqb control get_connector_info) 1152
     0)))))))))))
 
@@ -60,7 +60,7 @@ csmi_sas = ascii "CSMISAS" ++ (0 ∷ [])
 
 -- "for code 1"; "signature CSMIALL for 2 and 3, CSMISAS for 30" (W-204); "code 4 .., signature CSMIALL" (W-207)
 unfoldable pub signed_all : ℕ → Bool
-signed_all control = eqb control get_orriver_info || eqb control get_cntlr_config || eqb control get_cntlr_status || eqb control firmware_download
+signed_all control = eqb control get_driver_info || eqb control get_cntlr_config || eqb control get_cntlr_status || eqb control firmware_download
 
 -- "A code 22 request with its reset byte at 1 needs Full ..; with any other byte it still needs Restricted" (W-202)
 unfoldable pub link_errors_need : ℕ → Level
@@ -70,7 +70,7 @@ link_errors_need reset = cond (eqb reset link_error_reset_counts) full restricte
 -- FIS"; 22 by its reset byte, above; "codes 2, 3 and 30 .. at Restricted" (W-204); "code 4 at Limited" (W-207). A code that no line names needs Full
 unfoldable pub need : ℕ → List ℕ → Level
 need control body =
-    cond (eqb control get_orriver_info) restricted
+    cond (eqb control get_driver_info) restricted
     (cond (eqb control get_cntlr_config) restricted
     (cond (eqb control get_cntlr_status) restricted
     (cond (eqb control firmware_download) limited
@@ -80,6 +80,6 @@ need control body =
     (cond (eqb control stp_passthru) (need_of (command body))
     (cond (eqb control get_sata_signature) restricted
     (cond (eqb control get_scsi_address) restricted
-    (cond (eqb control get_orevice_address) restricted
+    (cond (eqb control get_device_address) restricted
     (cond (eqb control get_connector_info) restricted
     full)))))))))))

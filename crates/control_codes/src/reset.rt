@@ -5,6 +5,7 @@ ghost use Rattle.control_codes.specs.Table.{link_errors_need};
 use level::Level;
 
 // By its reset byte.
+#[tactic(auto, using(laws::specs::Choice::picks), unfolding(crate::specs::Table::link_errors_need))]
 pub fn link_errors_need(reset: u8) -> Level
     ensures { result ≡ link_errors_need reset }
 {

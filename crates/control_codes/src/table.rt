@@ -6,6 +6,7 @@ use crate::reset::link_errors_need;
 use level::Level;
 
 // The control code is served.
+#[tactic(auto, unfolding(crate::specs::Table::known, level::specs::Need::among))]
 pub fn is_known(control: u32) -> bool
     ensures { result ≡ known control }
 {
@@ -24,6 +25,7 @@ pub fn is_known(control: u32) -> bool
 }
 
 // The size of a code's structure without the header, and 0 of a code that has none.
+#[tactic(auto, using(laws::specs::Choice::picks), unfolding(crate::specs::Table::structure_size))]
 pub fn structure_size(control: u32) -> u32
     ensures { result ≡ structure_size control }
 {
@@ -67,6 +69,7 @@ pub fn structure_size(control: u32) -> u32
 }
 
 // The bytes behind a code's structure that its body says it has.
+#[tactic(auto, using(crate::proofs::TableLaws::passthrough_room, laws::specs::Choice::picks), unfolding(crate::specs::Table::data_size))]
 pub fn data_size(control: u32, body: &[u8]) -> u32
     requires { structure_size control ≤ length body.now }
     ensures { result ≡ data_size control body.now }
@@ -81,6 +84,7 @@ pub fn data_size(control: u32, body: &[u8]) -> u32
 }
 
 // The signature is CSMIALL, and not CSMISAS.
+#[tactic(auto, unfolding(crate::specs::Table::signed_all))]
 pub fn signed_all(control: u32) -> bool
     ensures { result ≡ signed_all control }
 {
@@ -91,6 +95,7 @@ pub fn signed_all(control: u32) -> bool
 }
 
 // The lowest level that may send this. A code that no line names needs Full.
+#[tactic(auto, using(laws::specs::Choice::picks, crate::proofs::TableLaws::errors_room, crate::proofs::TableLaws::passthrough_room), unfolding(crate::specs::Table::need))]
 pub fn need(control: u32, body: &[u8]) -> Level
     requires { structure_size control ≤ length body.now }
     ensures { result ≡ need control body.now }

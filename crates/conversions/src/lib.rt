@@ -1,5 +1,7 @@
 // The row for a SAS address and LUN, and the row for four OS bytes: what codes 27 and 28 look up, and what they answer (document 01,
 // "Adapter file", and codes 27 and 28).
+#![tactic(auto)]
+
 ghost use Rattle.std.specs.Prelude.{◌≡◌, ◌+◌, ◌<◌, ◌≤◌, length};
 ghost use Rattle.laws.specs.Splice.{splice};
 ghost use Rattle.wire.specs.Same.{same_bytes};
@@ -8,6 +10,7 @@ ghost use Rattle.rows.specs.Row.{rows_size, rows_of, row_at, sas_index, os_index
 use rows::place;
 
 // Row i has this SAS address and LUN. The last byte of the address, which seldom is the same, is compared first.
+#[tactic(auto, using(rows::proofs::ReadLaws::sas_compared, rows::proofs::ReadLaws::sas_unlike))]
 fn has_sas(rows: &[u8], i: usize, sas: &[u8]) -> bool
     requires i_bound { (i < 64) × (length rows.now ≡ rows_size) }
     requires sas_len { length sas.now ≡ 16 }
@@ -21,6 +24,7 @@ fn has_sas(rows: &[u8], i: usize, sas: &[u8]) -> bool
 }
 
 // Row i has these four OS bytes. The target is compared first.
+#[tactic(auto, using(rows::proofs::ReadLaws::os_compared, rows::proofs::ReadLaws::os_unlike_by))]
 fn has_os(rows: &[u8], i: usize, os: &[u8]) -> bool
     requires i_bound { (i < 64) × (length rows.now ≡ rows_size) }
     requires os_len { length os.now ≡ 4 }
@@ -34,6 +38,7 @@ fn has_os(rows: &[u8], i: usize, os: &[u8]) -> bool
 }
 
 // The first of `a` rows that has this SAS address and LUN, or a.
+#[tactic(auto, using(laws::specs::First::first_loop), unfolding(rows::specs::Row::sas_index))]
 pub fn find_sas(rows: &[u8], a: usize, sas: &[u8]) -> usize
     requires a_bound { (a ≤ 64) × (length rows.now ≡ rows_size) }
     requires sas_len { length sas.now ≡ 16 }
@@ -50,6 +55,7 @@ pub fn find_sas(rows: &[u8], a: usize, sas: &[u8]) -> usize
 }
 
 // The first of `a` rows that has these four OS bytes, or a.
+#[tactic(auto, using(laws::specs::First::first_loop), unfolding(rows::specs::Row::os_index))]
 pub fn find_os(rows: &[u8], a: usize, os: &[u8]) -> usize
     requires a_bound { (a ≤ 64) × (length rows.now ≡ rows_size) }
     requires os_len { length os.now ≡ 4 }
@@ -66,6 +72,7 @@ pub fn find_os(rows: &[u8], a: usize, os: &[u8]) -> usize
 }
 
 // Row i's SAS address and LUN, put at an index.
+#[tactic(auto, using(rows::proofs::ReadLaws::sas_put))]
 pub fn put_sas(rows: &[u8], i: usize, d: &mut [u8], at: usize)
     requires i_bound { (i < 64) × (length rows.now ≡ rows_size) }
     requires at_in_bounds { at + 16 ≤ length d.old }
@@ -75,6 +82,7 @@ pub fn put_sas(rows: &[u8], i: usize, d: &mut [u8], at: usize)
 }
 
 // Row i's four OS bytes, put at an index.
+#[tactic(auto, using(rows::proofs::ReadLaws::os_put))]
 pub fn put_os(rows: &[u8], i: usize, d: &mut [u8], at: usize)
     requires i_bound { (i < 64) × (length rows.now ≡ rows_size) }
     requires at_in_bounds { at + 4 ≤ length d.old }

@@ -1,9 +1,12 @@
 // Bytes copied and cleared. Every contract is an equation with a definition of `laws`.
+#![tactic(auto)]
+
 ghost use Rattle.std.specs.Prelude.{◌≡◌, ◌+◌, ◌*◌, ◌≤◌, length};
 ghost use Rattle.laws.specs.Splice.{part, splice};
 ghost use Rattle.laws.specs.Clear.{zeros};
 
 // Copies 16 bytes, by way of an array: so many are read before any is written, and the compiler moves them at once.
+#[tactic(auto, using(crate::proofs::SixteensLaws::sixteen_moved))]
 fn copy16(d: &mut [u8], at: usize, s: &[u8], from: usize)
     requires { (at + 16 ≤ length d.old) × (from + 16 ≤ length s.now) }
     ensures { d.new ≡ splice d.old at (part s.now from 16) }
@@ -13,6 +16,7 @@ fn copy16(d: &mut [u8], at: usize, s: &[u8], from: usize)
     copy_each(d, at, &bytes, 0, 16);
 }
 
+#[tactic(auto, using(laws::specs::Copy::copy_loop))]
 fn copy_each(d: &mut [u8], at: usize, s: &[u8], from: usize, n: usize)
     requires { (at + n ≤ length d.old) × (from + n ≤ length s.now) }
     ensures { d.new ≡ splice d.old at (part s.now from n) }
@@ -24,6 +28,7 @@ fn copy_each(d: &mut [u8], at: usize, s: &[u8], from: usize, n: usize)
     }
 }
 
+#[tactic(auto, using(crate::proofs::SixteensLaws::sixteens_loop))]
 fn copy_sixteens(d: &mut [u8], at: usize, s: &[u8], from: usize, n: usize)
     requires { (at + 16 * n ≤ length d.old) × (from + 16 * n ≤ length s.now) }
     ensures { d.new ≡ splice d.old at (part s.now from (16 * n)) }
@@ -36,6 +41,7 @@ fn copy_sixteens(d: &mut [u8], at: usize, s: &[u8], from: usize, n: usize)
 }
 
 // Copies the n bytes of s from index from on over those of d from index at on.
+#[tactic(auto, using(crate::proofs::SixteensLaws::parted_copy))]
 pub fn copy_part(d: &mut [u8], at: usize, s: &[u8], from: usize, n: usize)
     requires { (at + n ≤ length d.old) × (from + n ≤ length s.now) }
     ensures { d.new ≡ splice d.old at (part s.now from n) }
@@ -47,6 +53,7 @@ pub fn copy_part(d: &mut [u8], at: usize, s: &[u8], from: usize, n: usize)
 }
 
 // Sets the n bytes of d from index at on to 0.
+#[tactic(auto, using(laws::specs::Clear::clear_loop))]
 pub fn clear(d: &mut [u8], at: usize, n: usize)
     requires { at + n ≤ length d.old }
     ensures { d.new ≡ splice d.old at (zeros n) }
@@ -59,6 +66,7 @@ pub fn clear(d: &mut [u8], at: usize, n: usize)
 }
 
 // Copies all of s over the bytes of d from index at on.
+#[tactic(auto, using(laws::specs::Copy::copy_all))]
 pub fn copy_at(d: &mut [u8], at: usize, s: &[u8])
     requires { at + length s.now ≤ length d.old }
     ensures { d.new ≡ splice d.old at s.now }

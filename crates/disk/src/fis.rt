@@ -17,6 +17,7 @@ fn address(low: u8, middle: u8, high: u8, device: u8) -> u32
     low as u32 + 256 * (middle as u32 + 256 * (high as u32 + 256 * (device % 16) as u32))
 }
 
+#[tactic(auto, using(laws::specs::Choice::picks), unfolding(crate::specs::Disk::count_of))]
 fn sector_count(byte: u8) -> u32
     ensures { result ≡ count_of byte }
 {
@@ -27,6 +28,7 @@ fn sector_count(byte: u8) -> u32
 }
 
 // What the body asks.
+#[tactic(auto, using(crate::proofs::AskedLaws::asked_by))]
 pub fn ata_command(body: &[u8]) -> AtaCommand
     requires { data_place ≤ length body.now }
     ensures { result ≡ ata_command body.now }
@@ -66,6 +68,7 @@ fn failed(error: u8) -> Answer
 }
 
 // The answer to a read or a write of sectors.
+#[tactic(auto, using(laws::specs::Choice::picks), unfolding(crate::specs::Disk::transfer))]
 fn transferred(addressed: bool, lba: u32, count: u32) -> Answer
     ensures { result ≡ transfer addressed lba count }
 {
@@ -78,6 +81,7 @@ fn transferred(addressed: bool, lba: u32, count: u32) -> Answer
     failed(0x04)
 }
 
+#[tactic(auto, using(laws::specs::Choice::picks), unfolding(crate::specs::Disk::answer_by))]
 pub fn answer_by(command: u8, addressed: bool, lba: u32, count: u32) -> Answer
     ensures { result ≡ answer_by command addressed lba count }
 {

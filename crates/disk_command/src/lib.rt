@@ -1,4 +1,6 @@
 // The ATA command that a code 25 request brings to the disk of a phy: what it leaves of the disk and of the request (document 01, "Disk").
+#![tactic(auto)]
+
 mod reply;
 
 ghost use Rattle.std.specs.Prelude.{◌≡◌, ◌+◌, ◌*◌, ◌≤◌, length};
@@ -10,6 +12,7 @@ use disk::{Answer, AtaCommand, answer_by, ata_command};
 use reply::{put_identify, put_status};
 
 // Serves the command in the body of a code 25 request, and gives the return code.
+#[tactic(auto, using(disk::proofs::StoresLaws::asked_lent, crate::proofs::MadeLaws::performed_made))]
 pub fn command(disk: &mut [u8], body: &mut [u8]) -> u32
     requires { Lent disk.old body.old (data_length body.old) }
     ensures { performs result disk.new body.new ≡ performed disk.old body.old }
@@ -30,6 +33,7 @@ fn perform(disk: &mut [u8], body: &mut [u8], r: AtaCommand) -> u32
 }
 
 // Does what the answer promises. Code 3 leaves everything as it was.
+#[tactic(auto, using(laws::specs::Choice::picks, disk::proofs::StoresLaws::performs_by, disk::proofs::StoresLaws::rooms), unfolding(disk::specs::Disk::acted))]
 fn act(disk: &mut [u8], body: &mut [u8], r: AtaCommand, a: Answer) -> u32
     requires lent { Lent disk.old body.old r.data_length }
     requires a_value { a ≡ answer_to r }

@@ -7,6 +7,7 @@ ghost use Rattle.disk.specs.Disk.{byte_twelve, status_of, with_status, identify}
 use disk::{Answer, AtaCommand};
 
 // Byte 12 of the status FIS: E5h reports the disk active there, and another command its count.
+#[tactic(auto, using(laws::specs::Choice::picks), unfolding(disk::specs::Disk::byte_twelve))]
 fn byte_twelve(command: u8, byte: u8) -> u8
     ensures { result ≡ byte_twelve command byte }
 {
@@ -17,6 +18,7 @@ fn byte_twelve(command: u8, byte: u8) -> u8
 }
 
 // The status FIS is at 4, uDataBytes at 88; every other byte is 0.
+#[tactic(auto, using(disk::proofs::StoresLaws::status_built))]
 fn status(body: &[u8], twelve: u8, a: Answer) -> [u8; 92]
     requires { data_place ≤ length body.now }
     ensures { result ≡ status_of body.now twelve a }
@@ -31,6 +33,7 @@ fn status(body: &[u8], twelve: u8, a: Answer) -> [u8; 92]
     s
 }
 
+#[tactic(auto, using(crate::proofs::MadeLaws::status_by))]
 pub fn put_status(body: &mut [u8], r: AtaCommand, a: Answer)
     requires { data_place ≤ length body.old }
     ensures { body.new ≡ with_status body.old r a }
@@ -40,6 +43,7 @@ pub fn put_status(body: &mut [u8], r: AtaCommand, a: Answer)
 }
 
 // Words 49 (LBA supported) and 60 (sectors) of 256.
+#[tactic(auto, using(crate::proofs::MadeLaws::identify_by))]
 pub fn put_identify(body: &mut [u8])
     requires { data_place + 512 ≤ length body.old }
     ensures { body.new ≡ splice body.old data_place identify }

@@ -37,6 +37,7 @@ fn serve_body(
 }
 
 // The header's checks and the level, and then the code's own.
+#[tactic(auto, using(crate::proofs::Laws::checked_room, laws::specs::Choice::picks, crate::proofs::Laws::refused_by), unfolding(crate::specs::Request::answered))]
 fn check_and_serve(
     kind: Kind,
     level: Level,
@@ -62,6 +63,7 @@ fn check_and_serve(
 }
 
 // The return code is written here, and nowhere else, at the place that the header says.
+#[tactic(auto, using(crate::proofs::Laws::code_placed, crate::proofs::Laws::code_written))]
 fn write_code(kind: Kind, buffer: &mut [u8], code: u32) -> u32
     requires { (form_by kind).size ≤ length buffer.old }
     ensures buffer_after { buffer.new ≡ with_code (form_by kind) buffer.old code }
@@ -94,6 +96,7 @@ fn reply_at(
 }
 
 // A request in a state that 107 accepts and a medium and a stage of their lengths, in a buffer with room for its header. Gives the return code that was written.
+#[tactic(auto, using(state::proofs::Laws::lent_size, crate::proofs::Laws::lent_phys, crate::proofs::Laws::lent_rows, crate::proofs::Laws::lent_medium, crate::proofs::Laws::reply_back))]
 pub fn reply(
     kind: Kind,
     state: &mut [u8],
@@ -115,6 +118,7 @@ pub fn reply(
 }
 
 // The length of a stage.
+#[tactic(auto, using(laws::specs::Choice::picks), unfolding(crate::specs::Request::stage_number))]
 fn stage_number(stage: usize) -> u32
     ensures { result ≡ stage_number stage }
 {
@@ -125,6 +129,7 @@ fn stage_number(stage: usize) -> u32
 }
 
 // The state, the medium's length and the stage's, in this order.
+#[tactic(auto, using(laws::specs::Choice::picks), unfolding(crate::specs::Request::state_number))]
 pub fn state_number(state: &[u8], medium: usize, stage: usize) -> u32
     requires { length state.now ≡ state_size }
     ensures { result ≡ state_number (state_of state.now) medium stage }
@@ -139,6 +144,7 @@ pub fn state_number(state: &[u8], medium: usize, stage: usize) -> u32
 }
 
 // The buffer's length, where the number of the checks before it is 0.
+#[tactic(auto, using(laws::specs::Choice::picks, crate::proofs::Laws::under_size, crate::proofs::Laws::has_size), unfolding(crate::specs::Request::buffer_number))]
 pub fn buffer_number(kind: Kind, number: u32, buffer: usize) -> u32
     ensures { result ≡ buffer_number (form_by kind) number buffer }
 {
@@ -157,6 +163,7 @@ fn call_number(kind: Kind, state: &[u8], medium: usize, stage: usize, buffer: us
     buffer_number(kind, state_number(state, medium, stage), buffer)
 }
 
+#[tactic(auto, using(crate::proofs::Laws::heard_state, crate::proofs::Laws::heard_medium, crate::proofs::Laws::heard_stage, crate::proofs::Laws::heard_room, crate::proofs::Laws::untouched_by, laws::specs::Choice::picks), unfolding(crate::specs::Request::handled))]
 fn handle(
     kind: Kind,
     state: &mut [u8],

@@ -2,6 +2,8 @@
 // request, under the first header or the Linux one. State, medium, stage and buffer are bytes that the caller lends. Each call is determined by equation from
 // its inputs, after refusals as after success, and none has a `requires`. The opening only reads the medium. `state_number`, `buffer_number` and
 // `reply` are the parts of a request, for a run that tests state, medium and stage once; `reply` requires what the first two test.
+#![tactic(auto)]
+
 mod handle;
 
 pub use firmware::STAGE_SIZE;

@@ -1,4 +1,5 @@
 // Where the fields of a code 4's body stand (6.4), each said once. The body is what stands behind the header.
+#![tactic(auto)]
 
 pub const BUFFER_LENGTH: usize = 0;
 

@@ -1,5 +1,7 @@
 // The simulator for programs in other languages: its two calls, the second under either header, a whole run and the tally of its record, over bytes
 // that the caller lends. `ascheknopf.h` declares them for C.
+#![tactic(auto)]
+
 ghost use Rattle.std.specs.Prelude.{◌≡◌};
 ghost use Rattle.header.specs.declared.Kind.TheVariants.{Srb, Linux};
 ghost use Rattle.state.specs.Open.{OpenCall};

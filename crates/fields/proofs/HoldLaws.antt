@@ -26,7 +26,7 @@ range_kept a b minimum maximum k = cc
 pub fields_cleared : (phy : Phy) (n : PhyIdentifier) (p : ℕ) → fields_hold (cleared phy) n p ≡ fields_hold phy n p
 fields_cleared phy n p = fields_kept phy (cleared phy) n p (kept_cleared phy) (settings_cleared phy)
 
--- ---- held at spin-up
+-- ---- held at spin_up
 
 -- W-205: "may be 1 on a SATA phy"
 allowed : (phy : Phy) → spinup_allowed phy ≡ true → phy.spinup_hold ≢ 0 → (phy.spinup_hold ≡ 1) × (is_sata phy ≡ true)
@@ -40,7 +40,7 @@ unfolding fields_hold
 spinup_sata phy n p f =
     allowed phy (both_right (identify_holds phy n p && rates_hold phy && attached_hold phy && leb phy.held 1 && leb phy.fixed 1 && held_signature_holds phy) (spinup_allowed phy) f)
 
--- ---- no longer held at spin-up
+-- ---- no longer held at spin_up
 
 module _ (phy : Phy) where
   pub range_released : (minimum maximum : ℕ) → range_holds (released phy) minimum maximum ≡ range_holds phy minimum maximum

@@ -141,7 +141,7 @@ module _ (phy : Phy) where
       rw (lt-leb phy.held 1 (omega arith)) refl)
       (eqb phy.held 0) refl
 
-  -- whether the device is held at spin-up
+  -- whether the device is held at spin_up
   pub spinup_none : phy.spinup_hold ≡ 0 → true ≡ spinup_allowed phy
   unfolding spinup_allowed
   spinup_none e = rw e refl

@@ -1,5 +1,7 @@
 // The field rules of one phy (document 01, "Adapter file", "Field rules"; W-205). The rule of the negotiated rate rests on the link rule and is
 // not here.
+#![tactic(auto)]
+
 ghost use Rattle.std.specs.Prelude.{◌≡◌, ◌&&◌, leb};
 ghost use Rattle.wire.specs.Same.{all_zero};
 ghost use Rattle.phy.specs.Entity.{is_sata};
@@ -9,6 +11,7 @@ use phy::{
     ATTACHED, CLASS, IDENTIFIER, MAXIMUM, MINIMUM, PORT, Phy, PhyIdentifier, PortIdentifier,
 };
 
+#[tactic(auto, unfolding(crate::specs::Rules::identify_holds, phy::specs::Entity::identifier_of, phy::specs::Entity::class_of, phy::specs::Entity::port_of))]
 fn identify_holds(phy: Phy, n: PhyIdentifier, p: u8) -> bool
     ensures { result ≡ identify_holds phy n p }
 {
@@ -19,6 +22,7 @@ fn identify_holds(phy: Phy, n: PhyIdentifier, p: u8) -> bool
 }
 
 // Numbers that rise from 8 to 9 are rate codes, so only their order is tested.
+#[tactic(auto, using(crate::proofs::RulesLaws::rates_in_order), unfolding(crate::specs::Rules::rates_hold, crate::specs::Rules::range_holds, phy::specs::Entity::hardware_minimum, phy::specs::Entity::hardware_maximum, phy::specs::Entity::programmed_minimum, phy::specs::Entity::programmed_maximum))]
 fn rates_hold(phy: Phy) -> bool
     ensures { result ≡ rates_hold phy }
 {
@@ -39,6 +43,7 @@ fn signature_zero(phy: Phy) -> bool
     wire::zero_at(&signature, 0, 20)
 }
 
+#[tactic(auto, using(crate::proofs::RulesLaws::empty_by))]
 fn empty_holds(phy: Phy) -> bool
     ensures { result ≡ empty_holds phy }
 {
@@ -51,6 +56,7 @@ fn empty_holds(phy: Phy) -> bool
 }
 
 // The device's rates: their order is enough, as above.
+#[tactic(auto, using(crate::proofs::RulesLaws::device_in_order))]
 fn device_rates_hold(phy: Phy) -> bool
     ensures { result ≡ (is_rate phy.lowest && is_rate phy.highest && leb phy.lowest phy.highest) }
 {
@@ -59,6 +65,7 @@ fn device_rates_hold(phy: Phy) -> bool
         & (phy.highest <= codes::LINK_RATE_3_0)
 }
 
+#[tactic(auto, using(crate::proofs::RulesLaws::rates_behind), unfolding(crate::specs::Rules::device_holds, phy::specs::Entity::attached_type))]
 fn device_holds(phy: Phy) -> bool
     ensures { result ≡ device_holds phy }
 {
@@ -71,6 +78,7 @@ fn device_holds(phy: Phy) -> bool
 }
 
 // A SATA phy alone holds a signature, and its bytes are 0 where none is held.
+#[tactic(auto, using(crate::proofs::RulesLaws::signature_held, crate::proofs::RulesLaws::signature_none))]
 fn signature_holds(phy: Phy) -> bool
     ensures { result ≡ (leb phy.held 1 && held_signature_holds phy) }
 {
@@ -91,6 +99,7 @@ fn with_device_holds(phy: Phy) -> bool
 }
 
 // A SATA phy alone may be held at spin-up.
+#[tactic(auto, using(crate::proofs::RulesLaws::spinup_none, crate::proofs::RulesLaws::spinup_some))]
 fn spinup_allowed(phy: Phy) -> bool
     ensures { result ≡ spinup_allowed phy }
 {
@@ -101,6 +110,7 @@ fn spinup_allowed(phy: Phy) -> bool
 }
 
 // What is attached, and byte 100. Where nothing is attached no signature is held, so byte 100 needs no test of its own.
+#[tactic(auto, using(laws::specs::Choice::picks, crate::proofs::RulesLaws::nothing_attached, crate::proofs::RulesLaws::device_attached))]
 fn by_device_holds(phy: Phy) -> bool
     ensures { result ≡ (attached_hold phy && leb phy.held 1 && held_signature_holds phy) }
 {
@@ -118,6 +128,7 @@ fn signed_holds(phy: Phy) -> bool
 }
 
 // And byte 101.
+#[tactic(auto, using(laws::specs::Choice::picks, crate::proofs::RulesLaws::signed))]
 fn attached_holds(phy: Phy) -> bool
     ensures { result ≡ (attached_hold phy && leb phy.held 1 && leb phy.fixed 1 && held_signature_holds phy) }
 {
@@ -142,6 +153,7 @@ fn attached_spinup_holds(phy: Phy) -> bool
 
 // The field rules of phy n among p, but for the negotiated rate's. One group is tested behind the other, which is quicker for a sound phy than
 // one test of all.
+#[tactic(auto, using(laws::specs::Choice::flag, crate::proofs::RulesLaws::rates_passed, crate::proofs::RulesLaws::rates_failed, crate::proofs::RulesLaws::identify_failed))]
 pub fn fields_hold(phy: Phy, n: PhyIdentifier, p: u8) -> bool
     ensures { result ≡ fields_hold phy n p }
 {

@@ -38,6 +38,7 @@ fn fields_right(tables: &[u8], file: &[u8], p: usize, a: usize) -> bool
 }
 
 // A sound file, of the length that its counts give.
+#[tactic(auto, using(crate::proofs::Laws::count_read), unfolding(crate::specs::Steps::fields_read))]
 fn read_fields(tables: &mut [u8], file: &[u8], p: u8, a: u8) -> u32
     requires p_bound { (p ≤ 32) × (a ≤ 64) × (length file.now ≡ file_length p a) }
     requires tables_len { length tables.old ≡ tables_size }
@@ -57,6 +58,7 @@ fn blocks_sound(file: &[u8], p: usize, a: usize) -> bool
 }
 
 // A file of the length that its counts give.
+#[tactic(auto, using(laws::specs::Choice::picks), unfolding(crate::specs::Steps::blocks_read))]
 fn read_blocks(tables: &mut [u8], file: &[u8], p: u8, a: u8) -> u32
     requires p_bound { (p ≤ 32) × (a ≤ 64) × (length file.now ≡ file_length p a) }
     requires tables_len { length tables.old ≡ tables_size }
@@ -76,6 +78,7 @@ fn length_for(p: usize, a: usize) -> usize
 }
 
 // A file with counts in range.
+#[tactic(auto, using(laws::specs::Choice::picks), unfolding(crate::specs::Steps::length_read))]
 fn read_length(tables: &mut [u8], file: &[u8], p: u8, a: u8) -> u32
     requires p_bound { (p ≤ 32) × (a ≤ 64) }
     requires tables_len { length tables.old ≡ tables_size }
@@ -88,6 +91,7 @@ fn read_length(tables: &mut [u8], file: &[u8], p: u8, a: u8) -> u32
 }
 
 // A file whose block 0 is sound.
+#[tactic(auto, using(adapter::proofs::StoreLaws::phys_bound, adapter::proofs::StoreLaws::rows_bound, laws::specs::Choice::picks), unfolding(crate::specs::Steps::counts_read))]
 fn read_counts(tables: &mut [u8], file: &[u8], p: u8, a: u8) -> u32
     requires { length tables.old ≡ tables_size }
     ensures { reads result (tables_of tables.new) ≡ counts_read file.now p a }
@@ -98,6 +102,7 @@ fn read_counts(tables: &mut [u8], file: &[u8], p: u8, a: u8) -> u32
     refuse(tables, codes::BAD_FIELD)
 }
 
+#[tactic(auto, using(laws::specs::Choice::picks), unfolding(crate::specs::Steps::first_read))]
 fn read_first(tables: &mut [u8], file: &[u8]) -> u32
     requires { length tables.old ≡ tables_size }
     ensures { reads result (tables_of tables.new) ≡ first_read file.now }
@@ -112,6 +117,7 @@ fn read_first(tables: &mut [u8], file: &[u8]) -> u32
 }
 
 // What a file holds, left in the tables, and 0; or the number of the first check that it fails.
+#[tactic(auto, using(crate::proofs::StepsLaws::file_by))]
 pub fn read_file(tables: &mut [u8], file: &[u8]) -> u32
     requires { length tables.old ≡ tables_size }
     ensures { reads result (tables_of tables.new) ≡ file_read file.now }

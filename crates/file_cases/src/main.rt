@@ -1,13 +1,16 @@
 // Builds adapter files, damages each as a line of stdin says, and prints the number that the opening's file part and the rows
 // give it, with the counts of what was read. A line has six numbers of fixed width: p, a, an index and the byte to put there (an index past
 // the end puts nothing), 1 if the checks are made anew after that, and by how many bytes the file is cut.
+#![tactic(auto)]
+
 ghost use Rattle.std.specs.Prelude.{◌≡◌, ◌<◌, ◌≤◌, ◌+◌, ◌*◌, length};
 ghost use Rattle.tables.specs.Tables.{tables_size};
 
-use libc::{STDIN_FILENO, STDOUT_FILENO};
+use std::io;
+use std::io::{BufWriter, Read, Write};
 
 // A line's numbers.
-#[derive(Drop)]
+#[derive(Clone, Copy)]
 struct Numbers {
     p: usize,
     a: usize,
@@ -17,12 +20,8 @@ struct Numbers {
     cut: usize,
 }
 
-fn say(text: &[u8]) {
-    io::write_all(STDOUT_FILENO, text);
-}
-
-fn say_number(n: u64) {
-    io::print_decimal(STDOUT_FILENO, n);
+fn say_number<W: Write>(out: &mut W, n: u64) -> io::Result<()> {
+    write!(out, "{n}")
 }
 
 fn put(file: &mut [u8], at: usize, value: usize) {
@@ -187,26 +186,26 @@ fn judged(call: u32, tables: &[u8], a: u8) -> u32
     105
 }
 
-fn show_read(call: u32, tables: &[u8])
+fn show_read<W: Write>(out: &mut W, call: u32, tables: &[u8]) -> io::Result<()>
     requires { length tables.now ≡ tables_size }
 {
     let a = tables::row_count(tables);
     if 64 < a {
-        return;
+        return Ok(());
     }
-    say_number(judged(call, tables, a) as u64);
-    say(b" ");
-    say_number(tables::phy_count(tables) as u64);
-    say(b" ");
-    say_number(a as u64);
-    say(b"\n");
+    say_number(out, judged(call, tables, a) as u64)?;
+    out.write_all(b" ")?;
+    say_number(out, tables::phy_count(tables) as u64)?;
+    out.write_all(b" ")?;
+    say_number(out, a as u64)?;
+    out.write_all(b"\n")
 }
 
 // What a file gives, with the counts that were read.
-fn show(file: &[u8]) {
+fn show<W: Write>(out: &mut W, file: &[u8]) -> io::Result<()> {
     let mut tables = [0u8; tables::SIZE];
     let call = file::read_file(&mut tables, file);
-    show_read(call, &tables);
+    show_read(out, call, &tables)
 }
 
 // The size of a file with p phys and a rows.
@@ -243,35 +242,37 @@ fn seal_anew(file: &mut [u8], anew: usize) {
 }
 
 // The file without its last bytes.
-fn show_cut(file: &[u8], cut: usize) {
+fn show_cut<W: Write>(out: &mut W, file: &[u8], cut: usize) -> io::Result<()> {
     if cut <= file.len() {
-        show(&file[..file.len() - cut]);
+        show(out, &file[..file.len() - cut])?;
     }
+    Ok(())
 }
 
 // Builds, damages and shows one file.
-fn try_file(file: &mut [u8], n: Numbers)
+fn try_file<W: Write>(out: &mut W, file: &mut [u8], n: Numbers) -> io::Result<()>
     requires { (n.p < 64) × (n.a < 128) }
 {
     build(file, n.p, n.a);
     put(file, n.at, n.value);
     seal_anew(file, n.anew);
-    show_cut(file, n.cut);
+    show_cut(out, file, n.cut)
 }
 
-fn try_sized(n: Numbers, end: usize)
+fn try_sized<W: Write>(out: &mut W, n: Numbers, end: usize) -> io::Result<()>
     requires { (n.p < 64) × (n.a < 128) × (end ≤ 68608) }
 {
     let mut file = [0u8; 68608];
-    try_file(&mut file[..end], n);
+    try_file(out, &mut file[..end], n)
 }
 
-fn try_numbers(n: Numbers) {
+fn try_numbers<W: Write>(out: &mut W, n: Numbers) -> io::Result<()> {
     if n.p < 64 {
         if n.a < 128 {
-            try_sized(n, size(n.p, n.a));
+            try_sized(out, n, size(n.p, n.a))?;
         }
     }
+    Ok(())
 }
 
 // The decimal number of n digits at an index, its last five.
@@ -289,30 +290,58 @@ fn field(s: &[u8], from: usize, n: usize) -> usize
 }
 
 // A line of 25 bytes: its numbers have 2, 3, 5, 3, 1 and 5 digits, each with a byte behind it.
-fn try_line(line: &[u8])
+fn try_line<W: Write>(out: &mut W, line: &[u8]) -> io::Result<()>
     requires { length line.now ≡ 25 }
 {
-    try_numbers(Numbers {
-        p: field(line, 0, 2),
-        a: field(line, 3, 3),
-        at: field(line, 7, 5),
-        value: field(line, 13, 3),
-        anew: field(line, 17, 1),
-        cut: field(line, 19, 5),
-    });
+    try_numbers(
+        out,
+        Numbers {
+            p: field(line, 0, 2),
+            a: field(line, 3, 3),
+            at: field(line, 7, 5),
+            value: field(line, 13, 3),
+            anew: field(line, 17, 1),
+            cut: field(line, 19, 5),
+        },
+    )
 }
 
-fn try_lines(input: &[u8]) {
+fn try_lines<W: Write>(out: &mut W, input: &[u8]) -> io::Result<()> {
     let n = input.len() / 25;
     let mut i = 0;
     while i < n {
-        try_line(&input[25 * i..25 * i + 25]);
+        try_line(out, &input[25 * i..25 * i + 25])?;
         i += 1;
     }
+    Ok(())
 }
 
-fn main() {
-    let mut input = io::large_buffer();
-    let n = io::read_full(STDIN_FILENO, &mut input);
-    try_lines(&input[..n]);
+// 65,536 zeros.
+fn large_buffer() -> [u8; 65536]
+    ensures { 65536 ≡ length result }
+{
+    [0; 65536]
+}
+
+// Reads until the buffer is full, the input ends or a read fails, and gives the number of bytes.
+fn read_full<R: Read>(input: &mut R, buf: &mut [u8]) -> usize
+    ensures { result ≤ length buf.new }
+{
+    let mut done = 0;
+    while done < buf.len() {
+        match input.read(&mut buf[done..]) {
+            Ok(0) => return done,
+            Ok(n) => done += n,
+            Err(_) => return done,
+        }
+    }
+    done
+}
+
+fn main(rt: HostRuntime) -> io::Result<()> {
+    let mut out = BufWriter::new(rt.alloc(), rt.stdout())?;
+    let mut input = large_buffer();
+    let n = read_full(&mut rt.stdin(), &mut input);
+    try_lines(&mut out, &input[..n])?;
+    out.flush()
 }

@@ -1,5 +1,7 @@
 // Code 4, firmware download (W-207). It works on the body of its request, the buffer after its header, on the tables, and on the stage that the
 // caller lends. It gives the return code.
+#![tactic(auto)]
+
 ghost use Rattle.std.specs.Prelude.{◌≡◌, true, ◌+◌, ◌≤◌, length};
 ghost use Rattle.laws.specs.Splice.{splice};
 ghost use Rattle.adapter.specs.Changed.{leaves};
@@ -11,6 +13,7 @@ ghost use Rattle.firmware.specs.Firmware.{stage_size, downloads, blocks_hold, bu
 pub const STAGE_SIZE: usize = 16384;
 
 // The validate flag is set. No other flag is read.
+#[tactic(auto, unfolding(download::specs::Body::validates))]
 fn validates(body: &[u8]) -> bool
     requires { image_place ≤ length body.now }
     ensures { result ≡ validates body.now }
@@ -19,12 +22,14 @@ fn validates(body: &[u8]) -> bool
 }
 
 // The length is that of 1 to 32 blocks.
+#[tactic(auto, unfolding(crate::specs::Firmware::blocks_hold))]
 fn blocks_hold(n: u32) -> bool
     ensures { result ≡ blocks_hold n }
 {
     (n % 512 == 0) & (n >= 512) & (n <= 16384)
 }
 
+#[tactic(auto, using(crate::proofs::CodeLaws::blocks_by, laws::specs::Choice::picks, crate::proofs::CodeLaws::none_by), unfolding(crate::specs::Firmware::buffer_length_holds))]
 fn length_holds(body: &[u8]) -> bool
     requires { image_place ≤ length body.now }
     ensures { result ≡ buffer_length_holds body.now }
@@ -37,6 +42,7 @@ fn length_holds(body: &[u8]) -> bool
 }
 
 // Each block of the image has its check.
+#[tactic(auto, using(crate::proofs::CodeLaws::image_lent))]
 fn image_sound(body: &[u8]) -> bool
     requires { image_place + buffer_length body.now ≤ length body.now }
     ensures { result ≡ image_sound body.now }
@@ -56,6 +62,7 @@ fn copy_image(stage: &mut [u8], body: &[u8])
 }
 
 // Sets status and severity to 0.
+#[tactic(auto, unfolding(crate::specs::Firmware::acknowledged))]
 fn acknowledge(body: &mut [u8])
     requires { image_place ≤ length body.old }
     ensures { body.new ≡ acknowledged body.old }
@@ -64,6 +71,7 @@ fn acknowledge(body: &mut [u8])
 }
 
 // Copies the image to the stage, and notes that it is staged.
+#[tactic(auto, using(crate::proofs::CodeLaws::image_staged_lem))]
 fn stage_image(tables: &mut [u8], stage: &mut [u8], body: &mut [u8]) -> u32
     requires tables_len { length tables.old ≡ tables_size }
     requires bound { (512 ≤ buffer_length body.old) × (buffer_length body.old ≤ length stage.old) }
@@ -77,6 +85,7 @@ fn stage_image(tables: &mut [u8], stage: &mut [u8], body: &mut [u8]) -> u32
     codes::SUCCESS
 }
 
+#[tactic(auto, using(crate::proofs::CodeLaws::blocks_some, crate::proofs::CodeLaws::blocks_fit, laws::specs::Choice::picks), unfolding(crate::specs::Firmware::validation))]
 fn validate(tables: &mut [u8], stage: &mut [u8], body: &mut [u8]) -> u32
     requires tables_len { length tables.old ≡ tables_size }
     requires body_value { (blocks_hold (buffer_length body.old) ≡ true) × (length stage.old ≡ stage_size) }
@@ -91,6 +100,7 @@ fn validate(tables: &mut [u8], stage: &mut [u8], body: &mut [u8]) -> u32
 }
 
 // Makes the staged image the running one. The stage is not lent to it.
+#[tactic(auto, using(crate::proofs::CodeLaws::commit_by, laws::specs::Choice::picks), unfolding(crate::specs::Firmware::commit))]
 fn commit(tables: &mut [u8], body: &mut [u8]) -> u32
     requires tables_len { length tables.old ≡ tables_size }
     requires image_place_in_bounds { image_place ≤ length body.old }
@@ -105,6 +115,7 @@ fn commit(tables: &mut [u8], body: &mut [u8]) -> u32
 }
 
 // Validates and stages an image, or makes the staged one current.
+#[tactic(auto, using(crate::proofs::CodeLaws::length_blocks, laws::specs::Choice::picks, crate::proofs::CodeLaws::beside_by), unfolding(crate::specs::Firmware::load_firmware))]
 pub fn firmware_download(tables: &mut [u8], stage: &mut [u8], body: &mut [u8]) -> u32
     requires tables_len { length tables.old ≡ tables_size }
     requires stage_len { length stage.old ≡ stage_size }

@@ -1,12 +1,14 @@
 // What stands before each request of a session: how long it is and, where both headers may come, which one it has (document 01, "Starred
 // cases", its last paragraphs; W-201).
+#![tactic(auto)]
+
 ghost use Rattle.std.specs.Prelude.{◌≡◌, ◌≤◌, length};
 ghost use Rattle.frames.specs.Frames.{prefix_size, prefix_of, says_kind, kind_of, first_size};
 
 use header::Kind;
 
 // Which requests a session has, and so what stands before each.
-#[derive(Drop)]
+#[derive(Clone, Copy)]
 pub enum Framing {
     // under the first header: a length
     FirstHeader,
@@ -15,7 +17,7 @@ pub enum Framing {
 }
 
 // What stands before a request. Where that is a length alone, the header is the first and the control code 0.
-#[derive(Drop)]
+#[derive(Clone, Copy)]
 pub struct Prefix {
     pub header: u32,
     pub control: u32,
@@ -57,6 +59,7 @@ pub fn read_prefix(framing: Framing, session: &[u8]) -> Prefix
 }
 
 // They say a header, and a control code beside the Linux one alone.
+#[tactic(auto, using(laws::specs::Choice::picks), unfolding(crate::specs::Frames::says_kind))]
 fn says_kind(prefix: Prefix) -> bool
     ensures { result ≡ says_kind prefix }
 {
@@ -67,6 +70,7 @@ fn says_kind(prefix: Prefix) -> bool
 }
 
 // The header that they say.
+#[tactic(auto, using(laws::specs::Choice::picks), unfolding(crate::specs::Frames::kind_of))]
 pub fn kind_of(prefix: Prefix) -> Kind
     ensures { result ≡ kind_of prefix }
 {
@@ -77,6 +81,7 @@ pub fn kind_of(prefix: Prefix) -> Kind
 }
 
 // The bytes that the first request of a session stands in, with what is before it; 0 where no whole request does.
+#[tactic(auto, using(crate::proofs::FramesLaws::first_short, crate::proofs::FramesLaws::first_whole, crate::proofs::FramesLaws::first_cut, crate::proofs::FramesLaws::first_unsaid))]
 pub fn first_size(framing: Framing, session: &[u8]) -> usize
     ensures value { result ≡ first_size framing session.now }
     ensures upper_bound { result ≤ length session.now }

@@ -32,12 +32,12 @@ srb_body buffer = behind_header srb buffer
 
 -- ---- its checks
 
--- "signature (CSMIALL for code 1, CSMISAS for the rest, then a zero byte)"; CSMIALL for 2, 3 and 4 too (`signedAll`)
+-- "signature (CSMIALL for code 1, CSMISAS for the rest, then a zero byte)"; CSMIALL for 2, 3 and 4 too (`signed_all`)
 unfoldable pub signature_holds : ℕ → List ℕ → Bool
 signature_holds code buffer = cond (signed_all code) (same_bytes (signature buffer) csmi_all) (same_bytes (signature buffer) csmi_sas)
 
 -- "Length at least the structure's size without header (for 25: without bDataBuffer, plus uDataLength) and 28 + Length inside the
--- buffer", which is Length inside the body; for 4 "Length counts" its bytes too (`dataSize`)
+-- buffer", which is Length inside the body; for 4 "Length counts" its bytes too (`data_size`)
 unfoldable pub length_holds : ℕ → ℕ → List ℕ → Bool
 length_holds code n body = leb (structure_size code + data_size code body) n && leb n (length body)
 

@@ -14,6 +14,7 @@ fn data_within(control: u32, size: u32, n: u32, body: &[u8]) -> bool
     size as u64 + data_size(control, body) as u64 <= n as u64
 }
 
+#[tactic(auto, using(crate::proofs::LengthLaws::short_structure, crate::proofs::LengthLaws::short_body, crate::proofs::LengthLaws::inside_body))]
 fn within(control: u32, size: u32, n: u32, body: &[u8]) -> bool
     requires { size ≡ structure_size control }
     ensures { result ≡ length_holds control n body.now }

@@ -14,6 +14,7 @@ pub const RETURN_CODE: usize = 8;
 // What Length counts before the body.
 const HEADER_LENGTH: u32 = 20;
 
+#[tactic(auto, unfolding(crate::specs::Linux::direction_holds))]
 fn direction_holds(buffer: &[u8]) -> bool
     requires { linux.size ≤ length buffer.now }
     ensures { result ≡ direction_holds buffer.now }
@@ -22,6 +23,7 @@ fn direction_holds(buffer: &[u8]) -> bool
     (direction == codes::DATA_READ) | (direction == codes::DATA_WRITE)
 }
 
+#[tactic(auto, using(crate::proofs::LengthLaws::short_header, crate::proofs::LengthLaws::linux_length_by))]
 fn all_length_holds(control: u32, buffer: &[u8]) -> bool
     requires { linux.size ≤ length buffer.now }
     ensures { result ≡ linux_length_holds control buffer.now }
@@ -34,6 +36,7 @@ fn all_length_holds(control: u32, buffer: &[u8]) -> bool
 }
 
 // Of the checks, the return code of the first that fails, or 0. There is no level to pass: no need is above Full.
+#[tactic(auto, using(laws::specs::Choice::picks), unfolding(crate::specs::Linux::linux_code))]
 pub fn linux_code(control: u32, buffer: &[u8]) -> u32
     requires { linux.size ≤ length buffer.now }
     ensures { result ≡ linux_code control buffer.now }

@@ -37,6 +37,7 @@ pub fn control_code(kind: Kind, buffer: &[u8]) -> u32
 }
 
 // Of the checks up to the level, the return code of the first that fails, or 0. A request under the Linux header runs as Full.
+#[tactic(auto, using(crate::proofs::SentLaws::srb_size, crate::proofs::SentLaws::linux_size, crate::proofs::SentLaws::srb_access, crate::proofs::SentLaws::linux_access))]
 pub fn access_code(kind: Kind, level: Level, buffer: &[u8]) -> u32
     requires { (form_by kind).size ≤ length buffer.now }
     ensures { result ≡ checks_code level (sent kind buffer.now) }

@@ -33,6 +33,7 @@ fn header_length(buffer: &[u8]) -> u32
     wire::read32(buffer, 0)
 }
 
+#[tactic(auto, using(laws::specs::Choice::picks), unfolding(crate::specs::Srb::signature_holds, laws::specs::Ascii::ascii))]
 fn signature_holds(control: u32, buffer: &[u8]) -> bool
     ensures { result ≡ signature_holds control buffer.now }
 {
@@ -49,6 +50,7 @@ fn body_length_holds(control: u32, buffer: &[u8]) -> bool
     length_holds(control, wire::read32(buffer, 24), &buffer[SIZE..])
 }
 
+#[tactic(auto, using(laws::specs::Choice::picks), unfolding(crate::specs::Srb::code_checked))]
 fn check_code(control: u32, buffer: &[u8]) -> u32
     requires { srb.size ≤ length buffer.now }
     ensures { result ≡ code_checked control buffer.now }
@@ -73,6 +75,7 @@ fn check_control(buffer: &[u8]) -> u32
 }
 
 // Of the checks before the level, the return code of the first that fails, or 0.
+#[tactic(auto, using(laws::specs::Choice::picks), unfolding(crate::specs::Srb::srb_code))]
 fn header_code(buffer: &[u8]) -> u32
     requires { srb.size ≤ length buffer.now }
     ensures { result ≡ srb_code buffer.now }
@@ -83,6 +86,7 @@ fn header_code(buffer: &[u8]) -> u32
     codes::INVALID_PARAMETER
 }
 
+#[tactic(auto, using(crate::proofs::SentLaws::room_by, crate::proofs::SentLaws::above_by))]
 fn is_above(level: Level, buffer: &[u8]) -> bool
     requires size_in_bounds { srb.size ≤ length buffer.now }
     requires buffer_in_bounds { structure_size (control_code buffer.now) ≤ length (srb_body buffer.now) }
@@ -92,6 +96,7 @@ fn is_above(level: Level, buffer: &[u8]) -> bool
     level.0 < need.0
 }
 
+#[tactic(auto, using(crate::proofs::SentLaws::structure_room, laws::specs::Choice::picks), unfolding(crate::specs::Sent::checks_code))]
 fn access(level: Level, code: u32, buffer: &[u8]) -> u32
     requires size_in_bounds { srb.size ≤ length buffer.now }
     requires code_value { code ≡ srb_code buffer.now }

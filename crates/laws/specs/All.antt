@@ -6,7 +6,7 @@
 --     }
 --     true
 --
--- Its result is `allTo f n`, its invariant `(k ≤ n) × (allTo f k ≡ true)`, and each of its needs is `search all-loop`.
+-- Its result is `all_to f n`, its invariant `(k ≤ n) × (all_to f k ≡ true)`, and its goals follow by `all_loop`.
 -- A loop within a loop is two of these: the inner one is the function `ok`. Assumes nothing.
 use Rattle.std.specs.Prelude.{◌≡◌, refl, Bool, true, false, ◌&&◌, ℕ, zero, suc, ◌+◌, ◌<◌, ◌≤◌}
 use Rattle.std.proofs.Common.{sym, ◌∙◌, ap, true≢false, add-one, le_antisymm, not-suc-le-zero, rules, below_more, eq-eqb, ne_eqb}
@@ -29,7 +29,7 @@ all_more f k p q = rw add-one (both (all_to f k) (f k) p q)
 pub all_more_by : (f : ℕ → Bool) (k : ℕ) (r : Bool) → all_to f k ≡ true → r ≡ f k → r ≡ true → all_to f (k + 1) ≡ true
 all_more_by f k r p e q = all_more f k p (sym e ∙ q)
 
--- what `allTo` says of each number
+-- what `all_to` says of each number
 pub all_at : (f : ℕ → Bool) (n i : ℕ) → all_to f n ≡ true → i < n → f i ≡ true
 unfolding all_to
 all_at f zero i p h = absurd (not-suc-le-zero h)

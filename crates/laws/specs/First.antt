@@ -7,8 +7,8 @@
 --     }
 --     n
 --
--- Its result is `first f n`, its invariant `(i ≤ n) × (first f n ≡ firstFrom f i (n - i))`, and each of its needs is
--- `search first-loop`. Assumes nothing.
+-- Its result is `first f n`, its invariant `(i ≤ n) × (first f n ≡ first_from f i (n - i))`, and its goals follow by
+-- `first_loop`. Assumes nothing.
 use Rattle.std.specs.Prelude.{◌≡◌, refl, Bool, true, false, cond, ℕ, zero, suc, ◌+◌, ◌-◌, ◌<◌, ◌≤◌}
 use Rattle.std.proofs.Common.{sym, ◌∙◌, add-one, le_antisymm, arith, rules, eq-eqb, ne_eqb}
 use Rattle.std.proofs.Math.Nat.{sub_self, sub-zero}

@@ -9,7 +9,7 @@
 --     l
 --
 -- Its result is `pieces f n w N z`, its invariant
--- `(i ≤ n) × (l ≡ pieces f i w N z) × (length (flatTo f i) ≡ w * i)`. Assumes nothing.
+-- `(i ≤ n) × (l ≡ pieces f i w N z) × (length (flat_to f i) ≡ w * i)`. Assumes nothing.
 use Rattle.std.specs.Prelude.{◌≡◌, List, [], ◌++◌}
 use Rattle.std.proofs.Math.Path.{refl, ap}
 use Rattle.std.proofs.Common.{sym, ◌∙◌, append_assoc, le_antisymm, le_trans, zero-add, suc-add, add_comm, mul-suc, mul-le-mul_left, not-suc-le-zero, rules}
@@ -125,7 +125,7 @@ piece_length s d x w i n N m q l h k g e =
 pub ruleset put_loop = (pieces_start, piece_within, piece_length, flat_loop)
 
 -- the same over any bytes, of which only those behind the pieces are then cleared. The invariant is
--- `(i ≤ n) × (l ≡ splice l₀ 0 (flatTo f i)) × (length (flatTo f i) ≡ w * i) × (length l ≡ w * N)`
+-- `(i ≤ n) × (l ≡ splice l₀ 0 (flat_to f i)) × (length (flat_to f i) ≡ w * i) × (length l ≡ w * N)`
 pub over_none : (f : ℕ → List ℕ) (l : List ℕ) → l ≡ splice l 0 (flat_to f 0)
 unfolding flat_to splice
 over_none f l = refl

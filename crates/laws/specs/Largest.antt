@@ -8,7 +8,7 @@
 --     }
 --     l
 --
--- Its result is `largestTo f n` and its invariant `(k ≤ n) × (l ≡ largestTo f k)`. Assumes nothing.
+-- Its result is `largest_to f n` and its invariant `(k ≤ n) × (l ≡ largest_to f k)`. Assumes nothing.
 use Rattle.std.specs.Prelude.{◌≡◌, refl, Bool, true, false, cond, ◌&&◌, ℕ, zero, suc, ◌+◌, ◌≤◌, eqb, ltb}
 use Rattle.std.proofs.Common.{◌∙◌, ap, add-one, le_antisymm, arith, rules, eq-eqb, ne_eqb, eqb-true, ltb-true, ltb-false}
 use Rattle.laws.specs.Choice.{by_bool}

@@ -125,6 +125,7 @@ module _ {P E X : Type 0} (step : P → E → P) (note : P → E → X) where
           pub compare : (p q : P) (es fs : List E) → R p q → Matched p q es fs → Compared p q es fs
           unfolding ends log shown_by undropped
           compare p q [] [] r none = record { related = r; same = refl }
+          compare p q [] (f ∷ fs) r x4 = elim x4 [ ]
           compare p q (e ∷ es) fs r (lower d m) =
               let c = compare (step p e) q es fs (after_lower p q e d r) m in
               record { related = c.related; same = rw d c.same }

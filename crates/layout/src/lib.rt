@@ -1,4 +1,6 @@
 // Where things stand in an adapter file (document 01, "Adapter file").
+#![tactic(auto)]
+
 ghost use Rattle.std.specs.Prelude.{◌≡◌, ◌≤◌, ◌<◌};
 ghost use Rattle.layout.specs.Layout.{phy_place, row_blocks, row_block_place, row_place, controller_block, controller_place, connector_place, blocks};
 

@@ -5,6 +5,7 @@ ghost use Rattle.level.specs.Text.{begins, exact};
 use crate::{Level, Setting};
 
 // The entry begins with the five bytes CSMI= .
+#[tactic(auto, unfolding(crate::specs::Text::begins, laws::specs::Ascii::ascii))]
 pub fn begins_ours(entry: &[u8]) -> bool
     ensures { result ≡ begins entry.now }
 {
@@ -12,6 +13,7 @@ pub fn begins_ours(entry: &[u8]) -> bool
 }
 
 // What an entry that begins with CSMI= says.
+#[tactic(auto, using(laws::specs::Choice::picks), unfolding(crate::specs::Text::exact, laws::specs::Ascii::ascii))]
 pub fn exact_level(entry: &[u8]) -> Setting
     ensures { result ≡ exact entry.now }
 {

@@ -1,4 +1,6 @@
 // The level that a driver is set to, as an entry of a text says it, and the level that a command needs (document 01, "Level").
+#![tactic(auto)]
+
 mod entry;
 mod need;
 
@@ -10,11 +12,11 @@ use entry::{begins_ours, exact_level};
 use need::by_range;
 
 // How much a console may do: None 0, Restricted 1, Limited 2, Full 3.
-#[derive(Drop)]
+#[derive(Clone, Copy)]
 pub struct Level(pub u8);
 
 // What the entries of a text say of the level.
-#[derive(Drop)]
+#[derive(Clone, Copy)]
 pub enum Setting {
     // none of them begins with CSMI=
     Absent,
@@ -25,7 +27,7 @@ pub enum Setting {
 }
 
 // The level of a text where call is 0.
-#[derive(Drop)]
+#[derive(Clone, Copy)]
 pub struct TextLevel {
     pub call: u32,
     pub level: Level,
@@ -41,6 +43,7 @@ impl Level {
     pub const FULL: Level = Level(3);
 
     // What an entry says of the level. One that does not begin with CSMI= says nothing.
+    #[tactic(auto, using(laws::specs::Choice::picks), unfolding(crate::specs::Text::entry_setting))]
     pub fn from_entry(entry: &[u8]) -> Setting
         ensures { result ≡ entry_setting entry.now }
     {
@@ -51,6 +54,7 @@ impl Level {
     }
 
     // The lowest level that may send a command, by the command's code.
+    #[tactic(auto, using(crate::proofs::RangesLaws::formula_need))]
     pub fn from_need(command: u8) -> Level
         ensures { result ≡ need_of command }
     {

@@ -1,30 +1,43 @@
 // Reads level texts, one to a line, and prints for each the call's number, the level and the text's first bytes; then the
 // need of every command code, sixteen to a line. The texts, in stdin, are those that document 01 does not star.
+#![tactic(auto)]
+
 ghost use Rattle.std.specs.Prelude.{◌≤◌, ◌<◌, length};
 
-use libc::{STDIN_FILENO, STDOUT_FILENO};
+use std::io;
+use std::io::{BufWriter, Read, Write};
 
-fn say(text: &[u8]) {
-    io::write_all(STDOUT_FILENO, text);
+// Reads until the buffer is full, the input ends or a read fails, and gives the number of bytes.
+fn read_full<R: Read>(input: &mut R, buf: &mut [u8]) -> usize
+    ensures { result ≤ length buf.new }
+{
+    let mut done = 0;
+    while done < buf.len() {
+        match input.read(&mut buf[done..]) {
+            Ok(0) => return done,
+            Ok(n) => done += n,
+            Err(_) => return done,
+        }
+    }
+    done
 }
 
 // A text as it is, or its first 40 bytes.
-fn say_start(text: &[u8]) {
+fn say_start<W: Write>(out: &mut W, text: &[u8]) -> io::Result<()> {
     if text.len() < 40 {
-        say(text);
+        out.write_all(text)
     } else {
-        say(&text[..40]);
+        out.write_all(&text[..40])
     }
 }
 
-fn show(text: &[u8]) {
+fn show<W: Write>(out: &mut W, text: &[u8]) -> io::Result<()> {
     let t = level_text::of_text(text);
-    io::print_decimal(STDOUT_FILENO, t.call as u64);
-    say(b" ");
-    io::print_decimal(STDOUT_FILENO, t.level.0 as u64);
-    say(b" ");
-    say_start(text);
-    say(b"\n");
+    let call = t.call;
+    let level = t.level.0;
+    write!(out, "{call} {level} ")?;
+    say_start(out, text)?;
+    out.write_all(b"\n")
 }
 
 // Where the line ends that starts at an index.
@@ -42,34 +55,37 @@ fn line_end(input: &[u8], from: usize) -> usize
     i
 }
 
-fn show_lines(input: &[u8]) {
+fn show_lines<W: Write>(out: &mut W, input: &[u8]) -> io::Result<()> {
     let mut from = 0;
     while from < input.len() {
         let end = line_end(input, from);
-        show(&input[from..end]);
+        show(out, &input[from..end])?;
         from = end + 1;
     }
+    Ok(())
 }
 
-fn show_need(command: u8) {
-    io::print_decimal(STDOUT_FILENO, level::Level::from_need(command).0 as u64);
+fn show_need<W: Write>(out: &mut W, command: u8) -> io::Result<()> {
+    let need = level::Level::from_need(command).0;
+    write!(out, "{need}")?;
     if command % 16 == 15 {
-        say(b"\n");
+        out.write_all(b"\n")?;
     }
+    Ok(())
 }
 
-fn show_needs() {
-    let mut command: u8 = 0;
-    while command < 255 {
-        show_need(command);
-        command += 1;
+fn show_needs<W: Write>(out: &mut W) -> io::Result<()> {
+    for command in 0..=255u8 {
+        show_need(out, command)?;
     }
-    show_need(255);
+    Ok(())
 }
 
-fn main() {
+fn main(rt: HostRuntime) -> io::Result<()> {
     let mut input = [0u8; 8192];
-    let n = io::read_full(STDIN_FILENO, &mut input);
-    show_lines(&input[..n]);
-    show_needs();
+    let n = read_full(&mut rt.stdin(), &mut input);
+    let mut out = BufWriter::new(rt.alloc(), rt.stdout())?;
+    show_lines(&mut out, &input[..n])?;
+    show_needs(&mut out)?;
+    out.flush()
 }

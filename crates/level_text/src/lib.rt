@@ -1,4 +1,6 @@
 // The level of a whole text: its entries, one after the other (document 01, "Level").
+#![tactic(auto)]
+
 ghost use Rattle.std.specs.Prelude.{◌≡◌, ◌+◌, ◌-◌, ◌<◌, ◌≤◌, length, drop};
 ghost use Rattle.laws.specs.Splice.{part};
 ghost use Rattle.level.specs.Text.{setting_of, ours, entries, meant, text_level};
@@ -29,6 +31,7 @@ fn join(before: Setting, entry: Setting) -> Setting
 }
 
 // What was said before, and then by one more entry.
+#[tactic(auto, using(crate::proofs::WalkLaws::entry_joined))]
 fn read_entry(before: Setting, entry: &[u8]) -> Setting
     ensures { result ≡ after_entry before entry.now }
 {
@@ -36,6 +39,7 @@ fn read_entry(before: Setting, entry: &[u8]) -> Setting
 }
 
 // Past the end of the entry that starts at an index: behind its semicolon, or the end of the text.
+#[tactic(auto, using(crate::proofs::WalkLaws::end_loop))]
 fn entry_end(text: &[u8], from: usize) -> usize
     requires { from < length text.now }
     ensures { (result ≡ from + entry_length (drop from text.now)) × (from < result) × (result ≤ length text.now) }
@@ -51,6 +55,7 @@ fn entry_end(text: &[u8], from: usize) -> usize
 }
 
 // What was said before, and then by the entry from one index up to another.
+#[tactic(auto, unfolding(laws::specs::Splice::part))]
 fn read_part(before: Setting, text: &[u8], from: usize, end: usize) -> Setting
     requires { (from ≤ end) × (end ≤ length text.now) }
     ensures { result ≡ after_entry before (part text.now from (end - from)) }
@@ -59,6 +64,7 @@ fn read_part(before: Setting, text: &[u8], from: usize, end: usize) -> Setting
 }
 
 // What the entries of a text say.
+#[tactic(auto, using(crate::proofs::WalkLaws::walk_loop))]
 fn read_entries(text: &[u8]) -> Setting
     ensures { result ≡ setting_of (ours (entries text.now)) }
 {
@@ -90,6 +96,7 @@ fn meaning(s: Setting) -> TextLevel
 }
 
 // The level of a text, or 101.
+#[tactic(auto, using(laws::specs::Choice::picks), unfolding(level::specs::Text::text_level))]
 pub fn of_text(text: &[u8]) -> TextLevel
     ensures { result ≡ text_level text.now }
 {

@@ -1,16 +1,20 @@
 // The rate that a phy and the device attached to it agree on, a link reset, and a phy that is disabled (document 01, "Link
 // rule"; W-205).
+#![tactic(auto)]
+
 ghost use Rattle.std.specs.Prelude.{◌≡◌};
 ghost use Rattle.link.specs.Rule.{in_both, rates_rule, plain_rule, waiting_rate, rule_of, counted, reset, disabled, negotiated_holds};
 
 use phy::Phy;
 
+#[tactic(auto, unfolding(crate::specs::Rule::in_both))]
 fn in_both(rate: u8, minimum: u8, maximum: u8, lowest: u8, highest: u8) -> bool
     ensures { result ≡ in_both rate minimum maximum lowest highest }
 {
     (minimum <= rate) & (rate <= maximum) & (lowest <= rate) & (rate <= highest)
 }
 
+#[tactic(auto, using(laws::specs::Choice::picks), unfolding(crate::specs::Rule::rates_rule))]
 fn rates_rule(none: bool, minimum: u8, maximum: u8, lowest: u8, highest: u8) -> u8
     ensures { result ≡ rates_rule none minimum maximum lowest highest }
 {
@@ -27,6 +31,7 @@ fn rates_rule(none: bool, minimum: u8, maximum: u8, lowest: u8, highest: u8) -> 
 }
 
 // The same of a phy, held at spin-up or not.
+#[tactic(auto, using(crate::proofs::KeptLaws::plain_by))]
 fn plain_rule(phy: Phy) -> u8
     ensures { result ≡ plain_rule phy }
 {
@@ -40,6 +45,7 @@ fn plain_rule(phy: Phy) -> u8
 }
 
 // A device that waits for its spin-up has no rate yet.
+#[tactic(auto, using(laws::specs::Choice::picks), unfolding(crate::specs::Rule::waiting_rate))]
 fn waiting_rate(rate: u8) -> u8
     ensures { result ≡ waiting_rate rate }
 {
@@ -50,6 +56,7 @@ fn waiting_rate(rate: u8) -> u8
 }
 
 // The rate that a link reset gives.
+#[tactic(auto, using(crate::proofs::SpinUpLaws::rule_now, crate::proofs::SpinUpLaws::rule_plain))]
 pub fn rule(phy: Phy) -> u8
     ensures { result ≡ rule_of phy }
 {
@@ -59,6 +66,7 @@ pub fn rule(phy: Phy) -> u8
     plain_rule(phy)
 }
 
+#[tactic(auto, using(laws::specs::Choice::picks), unfolding(crate::specs::Rule::counted))]
 fn count_failure(phy: Phy, rate: u8) -> Phy
     ensures { result ≡ counted phy rate }
 {
@@ -69,6 +77,7 @@ fn count_failure(phy: Phy, rate: u8) -> Phy
 }
 
 // The phy after a link reset.
+#[tactic(auto, using(crate::proofs::KeptLaws::reset_by))]
 pub fn reset(phy: Phy) -> Phy
     ensures { result ≡ reset phy }
 {
@@ -77,6 +86,7 @@ pub fn reset(phy: Phy) -> Phy
 }
 
 // The phy disabled.
+#[tactic(auto, unfolding(crate::specs::Rule::disabled))]
 pub fn disabled(phy: Phy) -> Phy
     ensures { result ≡ disabled phy }
 {
@@ -84,6 +94,7 @@ pub fn disabled(phy: Phy) -> Phy
 }
 
 // The field rule of the negotiated rate.
+#[tactic(auto, using(crate::proofs::KeptLaws::disabled_passes, crate::proofs::KeptLaws::other_passes))]
 pub fn negotiated_holds(phy: Phy) -> bool
     ensures { result ≡ negotiated_holds phy }
 {

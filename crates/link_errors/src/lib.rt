@@ -1,5 +1,7 @@
 // Code 22, get link errors (document 01, "Request"). It works on the body of its request, the buffer after its header, and on the tables, in which
 // it stores the phy that it changes. It gives the return code.
+#![tactic(auto)]
+
 ghost use Rattle.std.specs.Prelude.{◌≡◌, ◌<◌, ◌≤◌, length};
 ghost use Rattle.phy.specs.Change.{cleared};
 ghost use Rattle.codes.specs.Codes.{success};
@@ -10,6 +12,7 @@ ghost use Rattle.link_errors.specs.LinkErrors.{counters_shown, after_reset, show
 
 use phy::{Phy, PhyIdentifier};
 
+#[tactic(auto, unfolding(crate::specs::LinkErrors::counters_shown))]
 fn put_counters(counters: [u32; 4], body: &mut [u8])
     requires { 20 ≤ length body.old }
     ensures { body.new ≡ counters_shown body.old counters }
@@ -29,6 +32,7 @@ fn clear_counters(tables: &mut [u8], n: PhyIdentifier, phy: Phy) -> u32
     codes::SUCCESS
 }
 
+#[tactic(auto, using(laws::specs::Choice::picks), unfolding(crate::specs::LinkErrors::after_reset))]
 fn after_reset(tables: &mut [u8], n: PhyIdentifier, phy: Phy, reset: u8) -> u32
     requires n_bound { n.0 < 32 }
     requires tables_len { length tables.old ≡ tables_size }
@@ -53,6 +57,7 @@ fn show_counters(tables: &mut [u8], n: PhyIdentifier, reset: u8, body: &mut [u8]
 }
 
 // Reports a phy's four counters, and clears them where the reset byte is 1.
+#[tactic(auto, using(laws::specs::Choice::picks), unfolding(crate::specs::LinkErrors::link_errors))]
 pub fn get_link_errors(tables: &mut [u8], body: &mut [u8]) -> u32
     requires tables_len { length tables.old ≡ tables_size }
     requires few_phys { FewPhys (tables_of tables.old) }

@@ -5,6 +5,7 @@ ghost use Rattle.tables.specs.Tables.{tables_size, tables_of};
 ghost use Rattle.reports.specs.Report.{report};
 ghost use Rattle.lookups.specs.DeviceAddress.{device_address};
 
+#[tactic(auto, using(crate::proofs::ConversionLaws::conversion), unfolding(crate::specs::DeviceAddress::device_address))]
 pub fn get_device_address(tables: &[u8], body: &mut [u8]) -> u32
     requires tables_len { length tables.now ≡ tables_size }
     requires few_rows { FewRows (tables_of tables.now) }

@@ -17,6 +17,7 @@ fn put_signature(phy: Phy, body: &mut [u8]) -> u32
     codes::SUCCESS
 }
 
+#[tactic(auto, using(laws::specs::Choice::picks), unfolding(crate::specs::Signature::signature_of))]
 fn signature_report(phy: Phy, body: &mut [u8]) -> u32
     requires { 24 ≤ length body.old }
     ensures { report result body.new ≡ signature_of phy body.old }
@@ -39,6 +40,7 @@ fn existing_signature(tables: &[u8], n: PhyIdentifier, body: &mut [u8]) -> u32
     signature_report(tables::phy_at(tables, n), body)
 }
 
+#[tactic(auto, using(laws::specs::Choice::picks), unfolding(crate::specs::Signature::sata_signature))]
 pub fn get_signature(tables: &[u8], body: &mut [u8]) -> u32
     requires tables_len { length tables.now ≡ tables_size }
     requires few_phys { FewPhys (tables_of tables.now) }

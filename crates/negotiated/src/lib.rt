@@ -1,4 +1,6 @@
 // The rule on the negotiated rate (document 01, "Field rules"), of every phy of the tables that the caller lends.
+#![tactic(auto)]
+
 ghost use Rattle.std.specs.Prelude.{◌≡◌, ℕ, ◌<◌, ◌≤◌, length};
 ghost use Rattle.laws.specs.All.{all_to};
 ghost use Rattle.adapter.specs.Adapter.{FewPhys, phy_in};
@@ -16,6 +18,7 @@ fn phy_negotiated(tables: &[u8], k: u8) -> bool
     negotiated_holds(tables::phy_at(tables, PhyIdentifier(k)))
 }
 
+#[tactic(auto, using(laws::specs::All::all_loop))]
 fn phys_negotiated(tables: &[u8], p: u8) -> bool
     requires { (p ≤ 32) × (length tables.now ≡ tables_size) }
     ensures { result ≡ all_to (λ (n : ℕ). negotiated_holds (phy_in (tables_of tables.now) n)) p }
@@ -32,6 +35,7 @@ fn phys_negotiated(tables: &[u8], p: u8) -> bool
 }
 
 // The negotiated rate of each phy is 1 or what the link rule gives.
+#[tactic(auto, using(link::proofs::AllLaws::all_by_count))]
 pub fn all_negotiated(tables: &[u8]) -> bool
     requires tables_len { length tables.now ≡ tables_size }
     requires few_phys { FewPhys (tables_of tables.now) }

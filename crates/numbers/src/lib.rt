@@ -1,4 +1,6 @@
 // Numbers as CSMI lays them out, little-endian, read and written. Every contract is an equation with a definition of specs/.
+#![tactic(auto)]
+
 ghost use Rattle.std.specs.Prelude.{◌≡◌, ◌+◌, ◌*◌, ◌≤◌, length};
 ghost use Rattle.laws.specs.Splice.{part, splice};
 ghost use Rattle.numbers.specs.Number.{number, bytes};
@@ -16,6 +18,7 @@ fn number32(a: u8, b: u8, c: u8, d: u8) -> u32
 }
 
 // The 16-bit number that stands at an index.
+#[tactic(auto, using(crate::proofs::NumberLaws::number_two))]
 pub fn read16(s: &[u8], at: usize) -> u16
     requires { at + 2 ≤ length s.now }
     ensures { result ≡ number (part s.now at 2) }
@@ -24,6 +27,7 @@ pub fn read16(s: &[u8], at: usize) -> u16
 }
 
 // The 32-bit number that stands at an index.
+#[tactic(auto, using(crate::proofs::NumberLaws::number_four))]
 pub fn read32(s: &[u8], at: usize) -> u32
     requires { at + 4 ≤ length s.now }
     ensures { result ≡ number (part s.now at 4) }
@@ -32,6 +36,7 @@ pub fn read32(s: &[u8], at: usize) -> u32
 }
 
 // Writes a 16-bit number at an index.
+#[tactic(auto, using(crate::proofs::NumberLaws::bytes_two))]
 pub fn write16(d: &mut [u8], at: usize, word: u16)
     requires { at + 2 ≤ length d.old }
     ensures { d.new ≡ splice d.old at (bytes 2 word) }
@@ -41,6 +46,7 @@ pub fn write16(d: &mut [u8], at: usize, word: u16)
 }
 
 // Writes a 32-bit number at an index.
+#[tactic(auto, using(crate::proofs::NumberLaws::bytes_four))]
 pub fn write32(d: &mut [u8], at: usize, dword: u32)
     requires { at + 4 ≤ length d.old }
     ensures { d.new ≡ splice d.old at (bytes 4 dword) }

@@ -14,6 +14,7 @@ use select::{Selection, select_phy};
 // A register host-to-device FIS.
 const COMMAND_FIS: u8 = 0x27;
 
+#[tactic(auto, unfolding(crate::specs::Passthrough::form_holds))]
 fn is_form(type_byte: u8, rate: u8) -> bool
     ensures { result ≡ form_holds type_byte rate }
 {
@@ -21,6 +22,7 @@ fn is_form(type_byte: u8, rate: u8) -> bool
 }
 
 // The phy's link is up at the connection rate, and the SATA device at its end has the destination's address.
+#[tactic(auto, unfolding(crate::specs::Passthrough::connected))]
 fn reaches(phy: Phy, rate: u8, destination: &[u8]) -> bool
     ensures { result ≡ connected phy rate destination.now }
 {
@@ -28,6 +30,7 @@ fn reaches(phy: Phy, rate: u8, destination: &[u8]) -> bool
     phy.is_sata() & rates::is_rate(negotiated) & (rate <= negotiated) & phy.attached_is(destination)
 }
 
+#[tactic(auto, unfolding(laws::specs::Splice::part))]
 fn is_connected(tables: &[u8], n: PhyIdentifier, body: &[u8]) -> bool
     requires n_bound { n.0 < 32 }
     requires tables_len { length tables.now ≡ tables_size }
@@ -52,6 +55,7 @@ fn on_disk(medium: &mut [u8], n: PhyIdentifier, body: &mut [u8]) -> u32
     disk_command::command(&mut medium[from..from + 8192], body)
 }
 
+#[tactic(auto, using(laws::specs::Choice::picks), unfolding(crate::specs::Passthrough::sent_to))]
 fn connect(tables: &[u8], medium: &mut [u8], body: &mut [u8], n: PhyIdentifier) -> u32
     requires n_bound { n.0 < 32 }
     requires tables_len { length tables.now ≡ tables_size }
@@ -66,6 +70,7 @@ fn connect(tables: &[u8], medium: &mut [u8], body: &mut [u8], n: PhyIdentifier) 
     codes::CONNECTION_FAILED
 }
 
+#[tactic(auto, using(select::proofs::Laws::selected_phy, crate::proofs::Laws::selected_disk, laws::specs::Choice::picks), unfolding(crate::specs::Passthrough::passed_to))]
 fn pass_to(tables: &[u8], medium: &mut [u8], body: &mut [u8], s: Selection) -> u32
     requires tables_len { length tables.now ≡ tables_size }
     requires few_phys { FewPhys (tables_of tables.now) }
@@ -99,6 +104,7 @@ fn pass_selected(tables: &[u8], medium: &mut [u8], body: &mut [u8]) -> u32
 }
 
 // Selects a phy, and sends the command to its disk if it is connected.
+#[tactic(auto, using(laws::specs::Choice::picks), unfolding(crate::specs::Passthrough::passthrough))]
 pub fn pass_through(tables: &[u8], medium: &mut [u8], body: &mut [u8]) -> u32
     requires tables_len { length tables.now ≡ tables_size }
     requires few_phys { FewPhys (tables_of tables.now) }

@@ -14,7 +14,7 @@ use Rattle.phy.specs.Entity.{byte_of, class_place, port_place, negotiated_place,
 use Rattle.phy.specs.Change.{released, one_more, problem_place, cleared, raised, stored, negotiated_as, programmed_as, configured}
 use Rattle.phy.proofs.KeptLaws.{Kept, Settings, kept_trans, byte_other, byte_here, kept_stored, kept_beside, kept_counters, settings_counters}
 
--- ---- the hold at spin-up
+-- ---- the hold at spin_up
 
 pub kept_released : (phy : Phy) → Kept phy (released phy)
 unfolding released
@@ -110,7 +110,7 @@ module _ (phy : Phy) (class minimum maximum : ℕ) where
   abbrev ranged : Phy
   ranged = programmed_as classed minimum_place minimum
 
-  -- whether the phy is held at spin-up is carried
+  -- whether the phy is held at spin_up is carried
   pub spinup_configured : (configured phy class minimum maximum).spinup_hold ≡ phy.spinup_hold
   unfolding configured programmed_as stored
   spinup_configured = refl

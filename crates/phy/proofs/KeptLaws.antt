@@ -1,5 +1,5 @@
 -- What a change of a phy keeps, in two records, for a store of one byte and for a change beside the entity, of the counters or of the hold at
--- spin-up. The changes themselves are in Changed. Assumes nothing.
+-- spin_up. The changes themselves are in Changed. Assumes nothing.
 use mathlib.Core.Path.{◌≡◌, refl, ◌∙◌, ap}
 use mathlib.Core.List.{List}
 use Prim.Native.Nat.{ℕ, ◌<◌}
@@ -130,7 +130,7 @@ kept_stored phy k v h i j m n =
 
 -- ---- what stands beside the entity
 
--- a change of the counters or of the hold at spin-up alone
+-- a change of the counters or of the hold at spin_up alone
 pub kept_beside : (a b : Phy) → b.entity ≡ a.entity → (length a.counters ≡ 4 → length b.counters ≡ 4) → b.signature ≡ a.signature → b.held ≡ a.held
     → b.fixed ≡ a.fixed → b.lowest ≡ a.lowest → b.highest ≡ a.highest → Kept a b
 unfolding identifier_of port_of hardware_minimum hardware_maximum attached_of attached_type no_device attached_address is_sata

@@ -14,6 +14,7 @@ fn entity_of(block: &[u8]) -> [u8; 64]
     entity
 }
 
+#[tactic(auto, unfolding(crate::specs::Block::counters_at))]
 fn counters_of(block: &[u8]) -> [u32; 4]
     requires { phy_size ≤ length block.now }
     ensures { result ≡ counters_at block.now 64 }

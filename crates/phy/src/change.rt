@@ -7,6 +7,7 @@ use crate::{CLASS, MAXIMUM, MINIMUM, NEGOTIATED, Phy};
 // The fourth counter of 6.9.
 const RESET_PROBLEM: usize = 3;
 
+#[tactic(auto, using(laws::specs::Choice::picks), unfolding(crate::specs::Change::one_more))]
 fn one_more(count: u32) -> u32
     ensures { result ≡ one_more count }
 {

@@ -1,5 +1,7 @@
 // One phy of the adapter (document 01, "Adapter file", as far as one phy goes): what its block holds, its fields by name,
 // and the changes that a request makes to it.
+#![tactic(auto)]
+
 mod block;
 mod change;
 
@@ -7,16 +9,16 @@ ghost use Rattle.std.specs.Prelude.{◌≡◌};
 ghost use Rattle.phy.specs.Entity.{port_of, negotiated_of, programmed_minimum, programmed_maximum, no_device, is_sata, attached_is};
 
 // The number of a phy.
-#[derive(Drop)]
+#[derive(Clone, Copy)]
 pub struct PhyIdentifier(pub u8);
 
 // The number of a port. It never stands for a phy's.
-#[derive(Drop)]
+#[derive(Clone, Copy)]
 pub struct PortIdentifier(pub u8);
 
 // A phy: its PHY_ENTITY (6.7.4.2), its four counters in the order of 6.9, its signature FIS and whether it holds one, whether
 // it is fixed, the lowest and the highest rate of the device attached to it, and whether that device is held at spin-up (W-205).
-#[derive(Drop)]
+#[derive(Clone, Copy)]
 pub struct Phy {
     pub entity: [u8; 64],
     pub counters: [u32; 4],
@@ -51,24 +53,28 @@ pub const PROTOCOLS: usize = 39;
 pub const ADDRESS: usize = 48;
 
 impl Phy {
+    #[tactic(auto, unfolding(crate::specs::Entity::port_of))]
     pub fn port(self) -> PortIdentifier
         ensures { result ≡ port_of self }
     {
         PortIdentifier(self.entity[PORT])
     }
 
+    #[tactic(auto, unfolding(crate::specs::Entity::negotiated_of))]
     pub fn negotiated(self) -> u8
         ensures { result ≡ negotiated_of self }
     {
         self.entity[NEGOTIATED]
     }
 
+    #[tactic(auto, unfolding(crate::specs::Entity::programmed_minimum))]
     pub fn programmed_minimum(self) -> u8
         ensures { result ≡ programmed_minimum self }
     {
         self.entity[MINIMUM] / 16
     }
 
+    #[tactic(auto, unfolding(crate::specs::Entity::programmed_maximum))]
     pub fn programmed_maximum(self) -> u8
         ensures { result ≡ programmed_maximum self }
     {
@@ -76,6 +82,7 @@ impl Phy {
     }
 
     // No device is attached.
+    #[tactic(auto, unfolding(crate::specs::Entity::no_device, crate::specs::Entity::attached_type))]
     pub fn no_device(self) -> bool
         ensures { result ≡ no_device self }
     {
@@ -84,6 +91,7 @@ impl Phy {
     }
 
     // A SATA device is attached.
+    #[tactic(auto, unfolding(crate::specs::Entity::is_sata, crate::specs::Entity::attached_type))]
     pub fn is_sata(self) -> bool
         ensures { result ≡ is_sata self }
     {
@@ -91,6 +99,7 @@ impl Phy {
     }
 
     // The attached SAS address is the given one.
+    #[tactic(auto, unfolding(crate::specs::Entity::attached_is, crate::specs::Entity::attached_address, laws::specs::Splice::part))]
     pub fn attached_is(self, address: &[u8]) -> bool
         ensures { result ≡ attached_is self address.now }
     {

@@ -7,6 +7,7 @@ ghost use Rattle.reports.specs.Report.{report};
 ghost use Rattle.reports.specs.ConnectorInfo.{references, connector_info};
 
 // The 32 references, zero from p on.
+#[tactic(auto, using(crate::proofs::ConnectorLaws::references_put))]
 fn put_references(tables: &[u8], p: usize, body: &mut [u8])
     requires p_bound { p ≤ 32 }
     requires tables_len { length tables.now ≡ tables_size }
@@ -17,6 +18,7 @@ fn put_references(tables: &[u8], p: usize, body: &mut [u8])
     wire::clear(body, 36 * p, 36 * (32 - p));
 }
 
+#[tactic(auto, unfolding(crate::specs::ConnectorInfo::connector_info))]
 pub fn get_connector_info(tables: &[u8], body: &mut [u8]) -> u32
     requires tables_len { length tables.now ≡ tables_size }
     requires few_phys { FewPhys (tables_of tables.now) }

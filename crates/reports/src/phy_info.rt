@@ -47,6 +47,7 @@ fn fill_entities(tables: &[u8], p: u8, body: &mut [u8])
     put_entities(tables, p, &mut body[4..2052]);
 }
 
+#[tactic(auto, unfolding(crate::specs::PhyInfo::phy_info))]
 pub fn get_phy_info(tables: &[u8], body: &mut [u8]) -> u32
     requires tables_len { length tables.now ≡ tables_size }
     requires few_phys { FewPhys (tables_of tables.now) }

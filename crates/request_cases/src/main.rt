@@ -13,43 +13,48 @@
 //   c PHY AT:HEX ..                    the state gets the connector that has these bytes
 //   i STAGED AT:HEX ..                 the state gets another byte for what is staged, and the revisions that have these bytes
 //   # ..                               a heading, printed as it stands
+#![tactic(auto)]
+
 ghost use Rattle.std.specs.Prelude.{◌≡◌, ◌≤◌, length};
 ghost use Rattle.state.specs.State.{state_size};
 ghost use Rattle.case_lines.specs.Lines.{filled_by, header_put, request_bytes, block_line, file_line};
 
 use case_lines::{damage, digest, state_digest};
 use case_words::{end, field, patch, word};
-use libc::{STDIN_FILENO, STDOUT_FILENO};
+use std::io;
+use std::io::{BufWriter, Read, Write};
 
-fn say(text: &[u8]) {
-    io::write_all(STDOUT_FILENO, text);
-}
-
-fn say_number(n: u64) {
-    say(b" ");
-    io::print_decimal(STDOUT_FILENO, n);
+fn say_number<W: Write>(out: &mut W, n: u64) -> io::Result<()> {
+    write!(out, " {n}")
 }
 
 // The digest of a state, and the end of a line.
-fn show_state(state: &[u8])
+fn show_state<W: Write>(out: &mut W, state: &[u8]) -> io::Result<()>
     requires { length state.now ≡ state_size }
 {
-    say_number(state_digest(state));
-    say(b"\n");
+    say_number(out, state_digest(state))?;
+    out.write_all(b"\n")
 }
 
-fn open(text: &[u8], file: &[u8], medium: &[u8], state: &mut [u8])
+fn open<W: Write>(
+    out: &mut W,
+    text: &[u8],
+    file: &[u8],
+    medium: &[u8],
+    state: &mut [u8],
+) -> io::Result<()>
     requires { length state.old ≡ state_size }
 {
     let call = dispatch::open(text, file, medium, state);
-    say(b"o");
-    say_number(call as u64);
-    say_number(digest(1, file));
-    say_number(digest(1, medium));
-    show_state(state);
+    out.write_all(b"o")?;
+    say_number(out, call as u64)?;
+    say_number(out, digest(1, file))?;
+    say_number(out, digest(1, medium))?;
+    show_state(out, state)
 }
 
 // Byte i becomes step × (i + 1) modulo 251, so step 0 makes zeros.
+#[tactic(auto, using(case_lines::proofs::LinesLaws::pattern_loop))]
 fn fill(d: &mut [u8], step: u32)
     ensures { d.new ≡ filled_by step (length d.old) }
 {
@@ -63,16 +68,23 @@ fn fill(d: &mut [u8], step: u32)
     }
 }
 
-fn open_line(state: &mut [u8], s: &[u8], file: &[u8], medium: &mut [u8])
+fn open_line<W: Write>(
+    out: &mut W,
+    state: &mut [u8],
+    s: &[u8],
+    file: &[u8],
+    medium: &mut [u8],
+) -> io::Result<()>
     requires { (length state.old ≡ state_size) × (length file.now ≡ 65536) × (length medium.old ≡ 262144) }
 {
     let m = (field(s, 1) % 262145) as usize;
     let f = (field(s, 2) % 65537) as usize;
     let text = word(s, 4);
     fill(medium, field(s, 3));
-    open(&s[text..], &file[0..f], &medium[0..m], state);
+    open(out, &s[text..], &file[0..f], &medium[0..m], state)
 }
 
+#[tactic(auto, using(case_lines::proofs::LinesLaws::headed_by))]
 fn put_header(buffer: &mut [u8], control: u32, n: u32)
     requires { 28 ≤ length buffer.old }
     ensures { buffer.new ≡ header_put buffer.old control n }
@@ -82,6 +94,7 @@ fn put_header(buffer: &mut [u8], control: u32, n: u32)
     wire::write32(buffer, 24, n);
 }
 
+#[tactic(auto, using(case_lines::proofs::LinesLaws::request_by))]
 fn put_request(buffer: &mut [u8], s: &[u8])
     requires { 28 ≤ length buffer.old }
     ensures { buffer.new ≡ request_bytes s.now (length buffer.old) }
@@ -91,50 +104,70 @@ fn put_request(buffer: &mut [u8], s: &[u8])
     patch(buffer, s, 6);
 }
 
-fn say_code(call: u32, buffer: &[u8]) {
+fn say_code<W: Write>(out: &mut W, call: u32, buffer: &[u8]) -> io::Result<()> {
     if call == 0 {
         if 28 <= buffer.len() {
-            say_number(wire::read32(buffer, 20) as u64);
-            return;
+            say_number(out, wire::read32(buffer, 20) as u64)?;
+            return Ok(());
         }
     }
-    say(b" -");
+    out.write_all(b" -")
 }
 
-fn show_reply(call: u32, buffer: &[u8], medium: &[u8], stage: &[u8], state: &[u8])
+fn show_reply<W: Write>(
+    out: &mut W,
+    call: u32,
+    buffer: &[u8],
+    medium: &[u8],
+    stage: &[u8],
+    state: &[u8],
+) -> io::Result<()>
     requires { length state.now ≡ state_size }
 {
-    say(b"q");
-    say_number(call as u64);
-    say_code(call, buffer);
-    say_number(digest(1, buffer));
-    say_number(digest(1, medium));
-    say_number(digest(1, stage));
-    show_state(state);
+    out.write_all(b"q")?;
+    say_number(out, call as u64)?;
+    say_code(out, call, buffer)?;
+    say_number(out, digest(1, buffer))?;
+    say_number(out, digest(1, medium))?;
+    say_number(out, digest(1, stage))?;
+    show_state(out, state)
 }
 
-fn send(state: &mut [u8], medium: &mut [u8], stage: &mut [u8], buffer: &mut [u8])
+fn send<W: Write>(
+    out: &mut W,
+    state: &mut [u8],
+    medium: &mut [u8],
+    stage: &mut [u8],
+    buffer: &mut [u8],
+) -> io::Result<()>
     requires { length state.old ≡ state_size }
 {
     let call = dispatch::request(state, medium, stage, buffer);
-    show_reply(call, buffer, medium, stage, state);
+    show_reply(out, call, buffer, medium, stage, state)
 }
 
-fn request_line(state: &mut [u8], s: &[u8], medium: &mut [u8], stage: &mut [u8])
+fn request_line<W: Write>(
+    out: &mut W,
+    state: &mut [u8],
+    s: &[u8],
+    medium: &mut [u8],
+    stage: &mut [u8],
+) -> io::Result<()>
     requires { (length state.old ≡ state_size) × (length medium.old ≡ 262144) }
 {
-    let mut buffer = io::large_buffer();
+    let mut buffer = large_buffer();
     let m = (field(s, 1) % 262145) as usize;
     let n = (field(s, 2) % 65537) as usize;
     put_request(&mut buffer, s);
-    send(state, &mut medium[0..m], stage, &mut buffer[0..n]);
+    send(out, state, &mut medium[0..m], stage, &mut buffer[0..n])
 }
 
-fn heading(s: &[u8]) {
-    say(s);
-    say(b"\n");
+fn heading<W: Write>(out: &mut W, s: &[u8]) -> io::Result<()> {
+    out.write_all(s)?;
+    out.write_all(b"\n")
 }
 
+#[tactic(auto, using(case_lines::proofs::LinesLaws::block_by))]
 fn block_line(file: &mut [u8], s: &[u8])
     requires { length file.old ≡ 65536 }
     ensures { file.new ≡ block_line file.old s.now }
@@ -143,35 +176,46 @@ fn block_line(file: &mut [u8], s: &[u8])
     patch(&mut file[at..], s, 2);
 }
 
-fn file_line(file: &mut [u8], s: &[u8], c: u8)
+#[tactic(auto, using(laws::specs::Choice::picks), unfolding(case_lines::specs::Lines::file_line))]
+fn file_line<W: Write>(out: &mut W, file: &mut [u8], s: &[u8], c: u8) -> io::Result<()>
     requires { length file.old ≡ 65536 }
     ensures { file.new ≡ file_line file.old s.now c }
 {
     if c == b'f' {
         fill(file, 0);
-        return;
+        return Ok(());
     }
     if c == b'p' {
         block_line(file, s);
-        return;
+        return Ok(());
     }
     if c == b'#' {
-        heading(s);
+        heading(out, s)?;
     }
+    Ok(())
 }
 
-fn call_line(state: &mut [u8], s: &[u8], file: &[u8], medium: &mut [u8], stage: &mut [u8], c: u8)
+fn call_line<W: Write>(
+    out: &mut W,
+    state: &mut [u8],
+    s: &[u8],
+    file: &[u8],
+    medium: &mut [u8],
+    stage: &mut [u8],
+    c: u8,
+) -> io::Result<()>
     requires { (length state.old ≡ state_size) × (length file.now ≡ 65536) × (length medium.old ≡ 262144) }
 {
     if c == b'q' {
-        request_line(state, s, medium, stage);
-        return;
+        request_line(out, state, s, medium, stage)?;
+        return Ok(());
     }
     if c == b'o' {
-        open_line(state, s, file, medium);
-        return;
+        open_line(out, state, s, file, medium)?;
+        return Ok(());
     }
     damage(state, s, c);
+    Ok(())
 }
 
 // How many bytes of the stage the requests after a line are lent.
@@ -186,7 +230,14 @@ fn stage_line(stage: &mut [u8], s: &[u8], c: u8, lent: usize) -> usize
     lent
 }
 
-fn do_lines(state: &mut [u8], input: &[u8], file: &mut [u8], medium: &mut [u8], stage: &mut [u8])
+fn do_lines<W: Write>(
+    out: &mut W,
+    state: &mut [u8],
+    input: &[u8],
+    file: &mut [u8],
+    medium: &mut [u8],
+    stage: &mut [u8],
+) -> io::Result<()>
     requires state_len { (length state.old ≡ state_size) × (length file.old ≡ 65536) × (length medium.old ≡ 262144) }
     requires stage_len { length stage.old ≡ 65536 }
 {
@@ -196,11 +247,12 @@ fn do_lines(state: &mut [u8], input: &[u8], file: &mut [u8], medium: &mut [u8], 
         let to = end(input, from, b'\n');
         let line = &input[from..to];
         let c = input[from];
-        file_line(file, line, c);
+        file_line(out, file, line, c)?;
         lent = stage_line(stage, line, c, lent);
-        call_line(state, line, file, medium, &mut stage[0..lent], c);
+        call_line(out, state, line, file, medium, &mut stage[0..lent], c)?;
         from = to + 1;
     }
+    Ok(())
 }
 
 // Room for the disks of 32 phys.
@@ -210,12 +262,43 @@ fn room() -> [u8; 262144]
     [0; 262144]
 }
 
-fn main() {
+// 65,536 zeros.
+fn large_buffer() -> [u8; 65536]
+    ensures { 65536 ≡ length result }
+{
+    [0; 65536]
+}
+
+// Reads until the buffer is full, the input ends or a read fails, and gives the number of bytes.
+fn read_full<R: Read>(input: &mut R, buf: &mut [u8]) -> usize
+    ensures { result ≤ length buf.new }
+{
+    let mut done = 0;
+    while done < buf.len() {
+        match input.read(&mut buf[done..]) {
+            Ok(0) => return done,
+            Ok(n) => done += n,
+            Err(_) => return done,
+        }
+    }
+    done
+}
+
+fn main(rt: HostRuntime) -> io::Result<()> {
+    let mut out = BufWriter::new(rt.alloc(), rt.stdout())?;
     let mut input = room();
-    let mut file = io::large_buffer();
+    let mut file = large_buffer();
     let mut medium = room();
-    let mut stage = io::large_buffer();
+    let mut stage = large_buffer();
     let mut state = [0u8; dispatch::SIZE];
-    let n = io::read_full(STDIN_FILENO, &mut input);
-    do_lines(&mut state, &input[0..n], &mut file, &mut medium, &mut stage);
+    let n = read_full(&mut rt.stdin(), &mut input);
+    do_lines(
+        &mut out,
+        &mut state,
+        &input[0..n],
+        &mut file,
+        &mut medium,
+        &mut stage,
+    )?;
+    out.flush()
 }

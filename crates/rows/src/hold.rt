@@ -10,6 +10,7 @@ ghost use Rattle.rows.specs.Seen.{folded, sas_words, sas_key, os_key, unmarked, 
 use crate::place;
 
 // Two rows have the same SAS address and LUN. The last byte of the address, which seldom is the same, is compared first.
+#[tactic(auto, using(crate::proofs::ReadLaws::sas_by, crate::proofs::ReadLaws::sas_pair_unlike))]
 fn same_sas(rows: &[u8], j: usize, i: usize) -> bool
     requires { (i < 64) × (j < 64) × (length rows.now ≡ rows_size) }
     ensures { result ≡ same_bytes (row_at (rows_of rows.now) j).sas (row_at (rows_of rows.now) i).sas }
@@ -23,6 +24,7 @@ fn same_sas(rows: &[u8], j: usize, i: usize) -> bool
 }
 
 // Two rows have the same four OS bytes. The target is compared first.
+#[tactic(auto, using(crate::proofs::ReadLaws::os_by, crate::proofs::ReadLaws::os_unlike))]
 fn same_os(rows: &[u8], j: usize, i: usize) -> bool
     requires { (i < 64) × (j < 64) × (length rows.now ≡ rows_size) }
     ensures { result ≡ same_bytes (row_at (rows_of rows.now) j).os (row_at (rows_of rows.now) i).os }
@@ -36,6 +38,7 @@ fn same_os(rows: &[u8], j: usize, i: usize) -> bool
 }
 
 // The two rows share neither SAS address and LUN nor all four OS bytes.
+#[tactic(auto, using(crate::proofs::RowLaws::apart_read))]
 fn are_apart(rows: &[u8], j: usize, i: usize) -> bool
     requires { (i < 64) × (j < 64) × (length rows.now ≡ rows_size) }
     ensures { result ≡ apart (row_at (rows_of rows.now) j) (row_at (rows_of rows.now) i) }
@@ -44,6 +47,7 @@ fn are_apart(rows: &[u8], j: usize, i: usize) -> bool
 }
 
 // Row i shares nothing with a row before it.
+#[tactic(auto, using(laws::specs::All::all_loop), unfolding(crate::specs::Row::fresh))]
 fn is_fresh(rows: &[u8], i: usize) -> bool
     requires { (i < 64) × (length rows.now ≡ rows_size) }
     ensures { result ≡ fresh (rows_of rows.now) i }
@@ -67,6 +71,7 @@ fn row_word(s: &[u8], at: usize) -> u64
 }
 
 // A number below 1,024 into which every bit of another goes.
+#[tactic(auto, unfolding(crate::specs::Seen::folded))]
 fn fold(n: u64) -> usize
     requires { n < 17179869184 }
     ensures { (result ≡ folded n) × (result < 1024) }
@@ -74,6 +79,7 @@ fn fold(n: u64) -> usize
     ((n + n / 1024 + n / 1048576 + n / 1073741824) % 1024) as usize
 }
 
+#[tactic(auto, using(crate::proofs::SeenLaws::words_read))]
 fn sas_words(rows: &[u8], at: usize) -> u64
     requires { at + 16 ≤ length rows.now }
     ensures { (result ≡ sas_words (part rows.now at 16)) × (result < 17179869184) }
@@ -82,6 +88,7 @@ fn sas_words(rows: &[u8], at: usize) -> u64
 }
 
 // The key of row i's SAS address and LUN, and that of its OS bytes: few rows have the same.
+#[tactic(auto, using(crate::proofs::SeenLaws::sas_key_read))]
 fn sas_key(rows: &[u8], i: usize) -> usize
     requires { (i < 64) × (length rows.now ≡ rows_size) }
     ensures value { result ≡ sas_key (row_at (rows_of rows.now) i) }
@@ -90,6 +97,7 @@ fn sas_key(rows: &[u8], i: usize) -> usize
     fold(sas_words(rows, place(i)))
 }
 
+#[tactic(auto, using(crate::proofs::SeenLaws::os_key_read))]
 fn os_key(rows: &[u8], i: usize) -> usize
     requires { (i < 64) × (length rows.now ≡ rows_size) }
     ensures value { result ≡ os_key (row_at (rows_of rows.now) i) }
@@ -99,6 +107,7 @@ fn os_key(rows: &[u8], i: usize) -> usize
 }
 
 // Neither of row i's keys is marked.
+#[tactic(auto, using(crate::proofs::SeenLaws::unmarked_read))]
 fn is_unmarked(seen: &[u8], rows: &[u8], i: usize) -> bool
     requires seen_len { length seen.now ≡ 2048 }
     requires i_bound { (i < 64) × (length rows.now ≡ rows_size) }
@@ -110,6 +119,7 @@ fn is_unmarked(seen: &[u8], rows: &[u8], i: usize) -> bool
 }
 
 // Marks both.
+#[tactic(auto, using(crate::proofs::SeenLaws::marked_more))]
 fn mark(seen: &mut [u8], rows: &[u8], i: usize)
     requires seen_len { length seen.old ≡ 2048 }
     requires i_bound { (i < 64) × (length rows.now ≡ rows_size) }
@@ -123,6 +133,7 @@ fn mark(seen: &mut [u8], rows: &[u8], i: usize)
 }
 
 // Row i shares nothing with a row before it; where none before it has one of its keys, there is nothing to compare.
+#[tactic(auto, using(crate::proofs::SeenLaws::unmarked_fresh))]
 fn is_fresh_by(seen: &[u8], rows: &[u8], i: usize) -> bool
     requires seen_len { length seen.now ≡ 2048 }
     requires i_bound { (i < 64) × (length rows.now ≡ rows_size) }
@@ -147,6 +158,7 @@ fn look_at(seen: &mut [u8], rows: &[u8], i: usize) -> bool
     fresh
 }
 
+#[tactic(auto, using(laws::specs::All::all_loop), unfolding(crate::specs::Row::rows_hold))]
 fn hold_by(seen: &mut [u8], rows: &[u8], a: usize) -> bool
     requires seen_len { length seen.old ≡ 2048 }
     requires a_bound { (a ≤ 64) × (length rows.now ≡ rows_size) }
@@ -174,6 +186,7 @@ fn many_hold(rows: &[u8], a: usize) -> bool
 }
 
 // The rule of the first a rows. Where there are none, no table is made.
+#[tactic(auto, using(crate::proofs::SeenLaws::none_hold))]
 pub fn rows_hold(rows: &[u8], a: usize) -> bool
     requires { (a ≤ 64) × (length rows.now ≡ rows_size) }
     ensures { result ≡ rows_hold (rows_of rows.now) a }
@@ -185,6 +198,7 @@ pub fn rows_hold(rows: &[u8], a: usize) -> bool
 }
 
 // The rows from a on are zero: one test of their bytes.
+#[tactic(auto, using(crate::proofs::ReadLaws::rows_past))]
 pub fn zero_from(rows: &[u8], a: usize) -> bool
     requires { (a ≤ 64) × (length rows.now ≡ rows_size) }
     ensures { result ≡ zero_from (rows_of rows.now) a }

@@ -1,5 +1,7 @@
 // The address rows of an adapter: which SAS address and LUN stands for which host index, path, target and LUN (document 01, "Adapter
 // file", and codes 27 and 28). They are bytes that the caller lends, 20 for each of 64 rows.
+#![tactic(auto)]
+
 mod hold;
 
 ghost use Rattle.std.specs.Prelude.{◌≡◌, ◌≤◌};

@@ -5,6 +5,6 @@ use Rattle.phy.specs.declared.Phy.{Phy}
 use Rattle.phy.specs.Block.{no_phy}
 use Rattle.fields.specs.Rules.{phy_zero}
 
--- the phys' half of `zeroPast`
+-- the phys' half of `zero_past`
 unfoldable pub phys_past : List Phy → ℕ → Bool
 phys_past phys p = all_to (λ (i : ℕ). phy_zero (get_or phys (p + i) no_phy)) (32 - p)

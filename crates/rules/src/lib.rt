@@ -1,5 +1,7 @@
 // The field rules of all phys and connectors, and "zero past p and a", over the tables that the caller lends (document 01, "Adapter file" and
 // "From the state"; W-204).
+#![tactic(auto)]
+
 ghost use Rattle.std.specs.Prelude.{◌≡◌, ◌<◌, ◌≤◌, length};
 ghost use Rattle.fields.specs.Rules.{fields_hold};
 ghost use Rattle.rows.specs.Row.{zero_from};
@@ -20,6 +22,7 @@ fn phy_holds(tables: &[u8], k: u8, p: u8) -> bool
     fields::fields_hold(phy, PhyIdentifier(k), p)
 }
 
+#[tactic(auto, using(laws::specs::All::all_loop), unfolding(crate::specs::Fields::fields_to))]
 fn phys_hold(tables: &[u8], p: u8) -> bool
     requires { (p ≤ 32) × (length tables.now ≡ tables_size) }
     ensures { result ≡ fields_to (tables_of tables.now) p }
@@ -44,6 +47,7 @@ fn connectors_hold(tables: &[u8], p: usize) -> bool
 }
 
 // Each phy below p passes the field rules, and its connector.
+#[tactic(auto, using(crate::proofs::FieldsLaws::fields_by))]
 pub fn all_fields_hold(tables: &[u8]) -> bool
     requires tables_len { length tables.now ≡ tables_size }
     requires few_phys { FewPhys (tables_of tables.now) }
@@ -54,6 +58,7 @@ pub fn all_fields_hold(tables: &[u8]) -> bool
 }
 
 // The phys from p on are zero: one test of their bytes.
+#[tactic(auto, using(crate::proofs::PastLaws::phys_past_lem))]
 fn phys_zero_from(tables: &[u8], p: usize) -> bool
     requires { (p ≤ 32) × (length tables.now ≡ tables_size) }
     ensures { result ≡ phys_past (tables_of tables.now).phys p }
@@ -61,6 +66,7 @@ fn phys_zero_from(tables: &[u8], p: usize) -> bool
     wire::zero_at(tables, tables::PHYS + phy::SIZE * p, phy::SIZE * (32 - p))
 }
 
+#[tactic(auto, using(crate::proofs::PastLaws::rows_past_lent))]
 fn rows_zero_from(tables: &[u8], a: usize) -> bool
     requires { (a ≤ 64) × (length tables.now ≡ tables_size) }
     ensures { result ≡ zero_from (tables_of tables.now).rows a }
@@ -76,6 +82,7 @@ fn connectors_zero_from(tables: &[u8], p: usize) -> bool
 }
 
 // Every phy and connector from p on and every row from a on is zero.
+#[tactic(auto, using(crate::proofs::PastLaws::past_by))]
 pub fn zero_past(tables: &[u8]) -> bool
     requires tables_len { length tables.now ≡ tables_size }
     requires few_phys { FewPhys (tables_of tables.now) × FewRows (tables_of tables.now) }

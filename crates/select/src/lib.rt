@@ -1,4 +1,6 @@
 // The phy that a code 25 selects (document 01, "Request"), by a phy identifier, a port identifier, or both.
+#![tactic(auto)]
+
 ghost use Rattle.std.specs.Prelude.{◌≡◌, ◌&&◌, not, ◌<◌, ◌≤◌, eqb, leb, length};
 ghost use Rattle.adapter.specs.Adapter.{FewPhys};
 ghost use Rattle.tables.specs.Tables.{tables_size, tables_of};
@@ -8,7 +10,7 @@ ghost use Rattle.select.specs.Select.{phy_given, port_given, lowest_of, selectio
 use phy::{PhyIdentifier, PortIdentifier};
 
 // The phy that was selected, where code is 0.
-#[derive(Drop)]
+#[derive(Clone, Copy)]
 pub struct Selection {
     pub code: u32,
     pub phy: PhyIdentifier,
@@ -20,12 +22,14 @@ const NO_PHY: u8 = 0xff;
 // IGNORE_PORT: no port is given.
 const NO_PORT: u8 = 0xff;
 
+#[tactic(auto, unfolding(crate::specs::Select::phy_given))]
 fn phy_given(phy: PhyIdentifier) -> bool
     ensures { result ≡ phy_given phy }
 {
     phy.0 != NO_PHY
 }
 
+#[tactic(auto, unfolding(crate::specs::Select::port_given))]
 fn port_given(port: PortIdentifier) -> bool
     ensures { result ≡ port_given port }
 {
@@ -75,6 +79,7 @@ fn selected(phy: PhyIdentifier) -> Selection
 }
 
 // With the lowest phy of the port, and the phy's own port.
+#[tactic(auto, using(laws::specs::Choice::picks), unfolding(crate::specs::Select::selection))]
 fn choose(
     phy: PhyIdentifier,
     port: PortIdentifier,
@@ -113,6 +118,7 @@ fn has_port(tables: &[u8], n: PhyIdentifier, port: PortIdentifier) -> bool
 }
 
 // The number of the first phy of a port, or p.
+#[tactic(auto, using(laws::specs::First::first_loop), unfolding(crate::specs::Select::lowest_of))]
 fn first_of(tables: &[u8], p: u8, port: PortIdentifier) -> u8
     requires p_bound { p ≤ 32 }
     requires tables_len { length tables.now ≡ tables_size }
@@ -152,6 +158,7 @@ fn select_existing(
 }
 
 // A phy that is not given, or does not exist.
+#[tactic(auto, using(laws::specs::Choice::picks), unfolding(crate::specs::Past::selection_past))]
 fn select_past(phy: PhyIdentifier, port: PortIdentifier, p: u8, lowest: PhyIdentifier) -> Selection
     ensures { result ≡ selection_past phy port p lowest }
 {
@@ -168,6 +175,7 @@ fn select_past(phy: PhyIdentifier, port: PortIdentifier, p: u8, lowest: PhyIdent
 }
 
 // With the lowest phy of the port.
+#[tactic(auto, using(crate::proofs::Laws::selection_past_lem))]
 fn select_from(
     tables: &[u8],
     p: u8,
@@ -186,6 +194,7 @@ fn select_from(
 }
 
 // Out of the phys below p.
+#[tactic(auto, using(crate::proofs::Laws::selection_portless), unfolding(crate::specs::Select::select_by))]
 fn select_below(tables: &[u8], p: u8, phy: PhyIdentifier, port: PortIdentifier) -> Selection
     requires p_bound { p ≤ 32 }
     requires tables_len { length tables.now ≡ tables_size }

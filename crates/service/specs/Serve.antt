@@ -1,7 +1,7 @@
 -- What a request does once its level is granted: the code's own checks and its effect (document 01, "Request"; W-204, W-207). Nothing here sees a
 -- level or a header. Assumes nothing.
 use Rattle.std.specs.Prelude.{cond, List, ℕ, eqb}
-use Rattle.codes.specs.Codes.{get_orriver_info, get_cntlr_config, get_cntlr_status, firmware_download, get_phy_info, set_phy_info, get_link_errors, stp_passthru, get_sata_signature, get_scsi_address, get_orevice_address, get_connector_info, bad_control_code}
+use Rattle.codes.specs.Codes.{get_driver_info, get_cntlr_config, get_cntlr_status, firmware_download, get_phy_info, set_phy_info, get_link_errors, stp_passthru, get_sata_signature, get_scsi_address, get_device_address, get_connector_info, bad_control_code}
 use Rattle.adapter.specs.Adapter.{Adapter}
 use Rattle.adapter.specs.Changed.{Changed}
 use Rattle.reports.specs.Report.{Report, report}
@@ -62,13 +62,13 @@ downloaded store d = serves d.code d.adapter (with_stage store d.stage) d.body
 -- codes 1, 2, 3, 20, 26, 27, 28 and 30; no other comes here: `served` takes 4, 21, 22 and 25 before, and the header's checks refuse the rest
 unfoldable pub report_of : Adapter → ℕ → List ℕ → Report
 report_of ad control body =
-    cond (eqb control get_orriver_info) (driver_info ad.info body)
+    cond (eqb control get_driver_info) (driver_info ad.info body)
     (cond (eqb control get_cntlr_config) (controller_config ad.controller body)
     (cond (eqb control get_cntlr_status) (controller_status ad.status body)
     (cond (eqb control get_phy_info) (phy_info ad.phys ad.phy_count body)
     (cond (eqb control get_sata_signature) (sata_signature ad body)
     (cond (eqb control get_scsi_address) (scsi_address ad.rows ad.row_count body)
-    (cond (eqb control get_orevice_address) (device_address ad.rows ad.row_count body)
+    (cond (eqb control get_device_address) (device_address ad.rows ad.row_count body)
     (cond (eqb control get_connector_info) (connector_info ad.connectors ad.phy_count body)
     (report bad_control_code body))))))))
 

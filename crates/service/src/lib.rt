@@ -1,4 +1,6 @@
 // The code's own checks and its effect, for each control code (document 01, "Request"; W-204, W-207). Nothing here sees a level or a header.
+#![tactic(auto)]
+
 ghost use Rattle.std.specs.Prelude.{◌≡◌, ◌+◌, ◌≤◌, length};
 ghost use Rattle.adapter.specs.Adapter.{FewPhys, FewRows, medium_size};
 ghost use Rattle.tables.specs.Tables.{tables_size, tables_of};
@@ -7,6 +9,7 @@ ghost use Rattle.firmware.specs.Firmware.{stage_size};
 ghost use Rattle.control_codes.specs.Table.{structure_size, data_size};
 ghost use Rattle.service.specs.Serve.{store_of, serves, report_of, served};
 
+#[tactic(auto, using(control_codes::proofs::TableLaws::room, laws::specs::Choice::picks), unfolding(crate::specs::Serve::report_of, control_codes::specs::Table::structure_size))]
 fn report(tables: &[u8], control: u32, body: &mut [u8]) -> u32
     requires tables_len { length tables.now ≡ tables_size }
     requires few_phys { FewPhys (tables_of tables.now) × FewRows (tables_of tables.now) }
@@ -42,6 +45,7 @@ fn report(tables: &[u8], control: u32, body: &mut [u8]) -> u32
 }
 
 // Serves a request whose header and level passed.
+#[tactic(auto, using(crate::proofs::Laws::room_and_data, crate::proofs::Laws::changed_by, crate::proofs::Laws::reported_by_lem, crate::proofs::Laws::passed_by, laws::specs::Choice::picks, crate::proofs::Laws::passthrough_lent, crate::proofs::Laws::downloaded_by), unfolding(crate::specs::Serve::served, control_codes::specs::Table::structure_size))]
 pub fn serve(
     tables: &mut [u8],
     medium: &mut [u8],

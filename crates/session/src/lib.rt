@@ -1,4 +1,6 @@
 // The run of a session: the opening, then its requests handled in order, in place (document 01, "Two runs and the last writer"; W-201, W-207).
+#![tactic(auto)]
+
 ghost use Rattle.std.specs.Prelude.{◌≡◌, true, ◌++◌, ◌+◌, ◌/◌, ◌≤◌, length};
 ghost use Rattle.wire.specs.Number.{bytes};
 ghost use Rattle.adapter.specs.Adapter.{medium_size};
@@ -46,6 +48,7 @@ fn record_reply(
 }
 
 // Handles a request, and writes its line. `number` is that of the state, the medium and the stage.
+#[tactic(auto, using(crate::proofs::RequestLaws::reply_buffer, crate::proofs::RequestLaws::reply_medium, crate::proofs::RequestLaws::reply_stage, crate::proofs::RequestLaws::reply_state, crate::proofs::RequestLaws::handled_replied, crate::proofs::RequestLaws::handled_refused))]
 fn record_request(
     kind: Kind,
     number: u32,
@@ -162,6 +165,7 @@ fn record_at(
 
 // Handles the requests of a session in order, until none is whole or the record is full, and gives their number. The rules of the state
 // are tested once, since no request breaks them.
+#[tactic(auto, using(crate::proofs::RunLaws::run_ends, frames::proofs::FramesLaws::first_prefix, crate::proofs::RunLaws::rest_up, crate::proofs::RunLaws::run_goes_on, crate::proofs::StateLaws::number_next, crate::proofs::RunLaws::run_full))]
 fn run(
     framing: Framing,
     state: &mut [u8],

@@ -1,5 +1,7 @@
 // Code 21, set phy info (document 01, "Request"; W-205). It works on the body of its request, the buffer after its header, and on the tables, in which
 // it stores the phy that it changes. It gives the return code.
+#![tactic(auto)]
+
 ghost use Rattle.std.specs.Prelude.{◌≡◌, ◌<◌, ◌≤◌, length};
 ghost use Rattle.codes.specs.Codes.{phy_info_changed};
 ghost use Rattle.adapter.specs.Adapter.{FewPhys, phy_in, with_phy};
@@ -10,7 +12,7 @@ ghost use Rattle.set_phy_info.specs.SetPhyInfo.{phy_setting, programmable, resul
 use phy::{Phy, PhyIdentifier};
 
 // What a code 21 asks: the negotiated byte, the two programmed bytes, and the signal class.
-#[derive(Drop)]
+#[derive(Clone, Copy)]
 pub struct PhySetting {
     pub negotiated: u8,
     pub minimum: u8,
@@ -19,6 +21,7 @@ pub struct PhySetting {
 }
 
 // The setting in a body.
+#[tactic(auto, unfolding(crate::specs::SetPhyInfo::phy_setting))]
 fn phy_setting(body: &[u8]) -> PhySetting
     requires { 8 ≤ length body.now }
     ensures { result ≡ phy_setting body.now }
@@ -32,6 +35,7 @@ fn phy_setting(body: &[u8]) -> PhySetting
 }
 
 // A programmed byte: 0, which leaves the rate, or a rate.
+#[tactic(auto, unfolding(crate::specs::SetPhyInfo::programmable))]
 fn is_programmable(byte: u8) -> bool
     ensures { result ≡ programmable byte }
 {
@@ -39,6 +43,7 @@ fn is_programmable(byte: u8) -> bool
 }
 
 // The rate that a programmed byte leaves.
+#[tactic(auto, using(laws::specs::Choice::picks), unfolding(crate::specs::SetPhyInfo::resulting))]
 fn result(byte: u8, rate: u8) -> u8
     ensures { result ≡ resulting byte rate }
 {
@@ -48,12 +53,14 @@ fn result(byte: u8, rate: u8) -> u8
     byte
 }
 
+#[tactic(auto, unfolding(crate::specs::SetPhyInfo::parameters_hold))]
 fn parameters_hold(s: PhySetting) -> bool
     ensures { result ≡ parameters_hold s }
 {
     (s.negotiated <= 1) & (s.class <= 3)
 }
 
+#[tactic(auto, unfolding(crate::specs::SetPhyInfo::rates_allowed))]
 fn rates_allowed(phy: Phy, s: PhySetting, minimum: u8, maximum: u8) -> bool
     ensures { result ≡ rates_allowed phy s minimum maximum }
 {
@@ -63,6 +70,7 @@ fn rates_allowed(phy: Phy, s: PhySetting, minimum: u8, maximum: u8) -> bool
 }
 
 // Disables the phy, or resets its link.
+#[tactic(auto, using(laws::specs::Choice::picks), unfolding(crate::specs::SetPhyInfo::relinked))]
 fn relink(negotiated: u8, phy: Phy) -> Phy
     ensures { result ≡ relinked negotiated phy }
 {
@@ -72,6 +80,7 @@ fn relink(negotiated: u8, phy: Phy) -> Phy
     link::reset(phy)
 }
 
+#[tactic(auto, unfolding(crate::specs::SetPhyInfo::set_to))]
 fn set_to(phy: Phy, s: PhySetting, minimum: u8, maximum: u8) -> Phy
     requires { (minimum < 16) × (maximum < 16) }
     ensures { result ≡ set_to phy s minimum maximum }
@@ -98,6 +107,7 @@ fn store_setting(
     codes::PHY_INFO_CHANGED
 }
 
+#[tactic(auto, using(laws::specs::Choice::picks, crate::proofs::Laws::minimum_below, crate::proofs::Laws::maximum_below), unfolding(crate::specs::SetPhyInfo::set_checked))]
 fn set_checked(
     tables: &mut [u8],
     n: PhyIdentifier,
@@ -122,6 +132,7 @@ fn set_checked(
     codes::INVALID_PARAMETER
 }
 
+#[tactic(auto, unfolding(crate::specs::SetPhyInfo::set_phy))]
 fn set_phy(tables: &mut [u8], n: PhyIdentifier, phy: Phy, s: PhySetting) -> u32
     requires n_bound { n.0 < 32 }
     requires tables_len { length tables.old ≡ tables_size }

@@ -1,13 +1,19 @@
 // The program (document 01, "Starred cases", its last paragraphs): opens the adapter of adapter.bin at the level of level.txt, handles the
 // requests of a session on standard input, prints a line for each, and at last the totals (W-206). Every rule is in the library; here is reading and printing.
 // The medium starts at zero, and so does the stage for firmware, which no line shows.
+#![tactic(auto)]
+
 mod print;
 mod session;
 
 ghost use Rattle.std.specs.Prelude.{◌≤◌, length};
 
 use print::{say_open, say_title, say_totals};
-use session::run;
+use session::{read_full, run};
+use std::fs::File;
+use std::io;
+use std::io::{Read, Stdin};
+use std::rt::Files;
 
 // A file of at most 7 phys and 64 rows has 9,728 bytes; one more shows that a file is longer.
 const FILE_LIMIT: usize = 9729;
@@ -18,45 +24,47 @@ const TEXT_LIMIT: usize = 1025;
 // The most phys that this program has disks for.
 const PHY_LIMIT: u8 = 7;
 
-fn read_and_close(fd: i32, buf: &mut [u8]) -> usize
-    ensures { result ≤ length buf.new }
-{
-    let n = io::read_full(fd, buf);
-    libc::close(fd);
-    n
-}
-
 // Fills buf from the start of a file, and gives the number of bytes. A missing file counts as empty.
-fn read_file(path: &[u8], buf: &mut [u8]) -> usize
+fn read_file<F: Files>(files: &F, path: &str, buf: &mut [u8]) -> usize
     ensures { result ≤ length buf.new }
 {
-    let fd = os::open_read(path);
-    if fd < 0 {
-        return 0;
+    match File::open(files, path) {
+        Ok(mut file) => read_full(&mut file, buf),
+        Err(_) => 0,
     }
-    read_and_close(fd, buf)
 }
 
 // Opens the adapter, and handles the session where that is accepted.
-fn simulate(text: &[u8], file: &[u8], medium: &mut [u8]) {
+fn simulate<P: Print, I: Read>(
+    rt: &P,
+    input: &mut I,
+    text: &[u8],
+    file: &[u8],
+    medium: &mut [u8],
+) -> io::Result<()> {
     let mut state = [0u8; dispatch::SIZE];
     let mut stage = [0u8; dispatch::STAGE_SIZE];
     let call = dispatch::open(text, file, medium, &mut state);
     if call == 0 {
-        say_title();
-        say_totals(run(&mut state, medium, &mut stage));
-        return;
+        say_title(rt)?;
+        return say_totals(rt, run(rt, input, &mut state, medium, &mut stage));
     }
-    say_open(call);
+    say_open(rt, call)
 }
 
 // The disks of p phys.
-fn with_disks(text: &[u8], file: &[u8], p: u8)
+fn with_disks<P: Print, I: Read>(
+    rt: &P,
+    input: &mut I,
+    text: &[u8],
+    file: &[u8],
+    p: u8,
+) -> io::Result<()>
     requires { p ≤ 7 }
 {
     let mut medium = [0u8; 57344];
     let size = 8192 * p as usize;
-    simulate(text, file, &mut medium[0..size]);
+    simulate(rt, input, text, file, &mut medium[0..size])
 }
 
 // Byte 0 of the file, which is its phy count.
@@ -67,19 +75,18 @@ fn phy_count(file: &[u8]) -> u8 {
     file[0]
 }
 
-fn start(text: &[u8], file: &[u8]) {
+fn start<P: Print, I: Read>(rt: &P, input: &mut I, text: &[u8], file: &[u8]) -> io::Result<()> {
     let p = phy_count(file);
     if PHY_LIMIT < p {
-        say_open(codes::BAD_FIELD);
-        return;
+        return say_open(rt, codes::BAD_FIELD);
     }
-    with_disks(text, file, p);
+    with_disks(rt, input, text, file, p)
 }
 
-fn main() {
+fn main(rt: HostRuntime) -> io::Result<()> {
     let mut text = [0u8; TEXT_LIMIT];
     let mut file = [0u8; FILE_LIMIT];
-    let t = read_file(b"level.txt", &mut text);
-    let f = read_file(b"adapter.bin", &mut file);
-    start(&text[0..t], &file[0..f]);
+    let t = read_file(&rt, "level.txt", &mut text);
+    let f = read_file(&rt, "adapter.bin", &mut file);
+    start(&rt, &mut rt.stdin(), &text[0..t], &file[0..f])
 }

@@ -8,11 +8,11 @@ ghost use Rattle.tally.specs.Totals.{after, Sums};
 ghost use Rattle.simulator.specs.Line.{code_in, HandledBy};
 
 use crate::print::say_taken;
-use libc::STDIN_FILENO;
+use std::io::Read;
 use tally::{Line, Taken, Totals};
 
 // What was taken from the session, and the totals after it.
-#[derive(Drop)]
+#[derive(Clone, Copy)]
 pub struct Step {
     pub taken: Taken,
     pub totals: Totals,
@@ -26,7 +26,23 @@ const HEADER_SIZE: usize = 28;
 
 const RETURN_CODE: usize = 20;
 
+// Reads until the buffer is full, the input ends or a read fails, and gives the number of bytes.
+pub fn read_full<I: Read>(input: &mut I, buf: &mut [u8]) -> usize
+    ensures { result ≤ length buf.new }
+{
+    let mut done = 0;
+    while done < buf.len() {
+        match input.read(&mut buf[done..]) {
+            Ok(0) => return done,
+            Ok(n) => done += n,
+            Err(_) => return done,
+        }
+    }
+    done
+}
+
 // The return code of a reply; none is written where the call gives a number.
+#[tactic(auto, unfolding(crate::specs::Line::code_in))]
 fn code_of(call: u32, buffer: &[u8]) -> u32
     ensures { result ≡ code_in call buffer.now }
 {
@@ -53,6 +69,7 @@ fn handle(state: &mut [u8], medium: &mut [u8], stage: &mut [u8], buffer: &mut [u
 }
 
 // A request of which n bytes were read into buffer. Input that ends within it cuts the session.
+#[tactic(auto, using(crate::proofs::SessionLaws::handled_line))]
 fn filled(
     state: &mut [u8],
     medium: &mut [u8],
@@ -70,30 +87,55 @@ fn filled(
     Taken::Handled(handle(state, medium, stage, buffer))
 }
 
-fn read_request(state: &mut [u8], medium: &mut [u8], stage: &mut [u8], buffer: &mut [u8]) -> Taken {
-    let n = io::read_full(STDIN_FILENO, buffer);
+fn read_request<I: Read>(
+    input: &mut I,
+    state: &mut [u8],
+    medium: &mut [u8],
+    stage: &mut [u8],
+    buffer: &mut [u8],
+) -> Taken {
+    let n = read_full(input, buffer);
     filled(state, medium, stage, buffer, n)
 }
 
-fn take_request(state: &mut [u8], medium: &mut [u8], stage: &mut [u8], size: usize) -> Taken
+fn take_request<I: Read>(
+    input: &mut I,
+    state: &mut [u8],
+    medium: &mut [u8],
+    stage: &mut [u8],
+    size: usize,
+) -> Taken
     requires { size ≤ 32768 }
 {
     let mut buffer = [0u8; 32768];
-    read_request(state, medium, stage, &mut buffer[0..size])
+    read_request(input, state, medium, stage, &mut buffer[0..size])
 }
 
 // A length that was read whole. A request that is too long cuts the session.
-fn sized(state: &mut [u8], medium: &mut [u8], stage: &mut [u8], size: u32) -> Taken
+fn sized<I: Read>(
+    input: &mut I,
+    state: &mut [u8],
+    medium: &mut [u8],
+    stage: &mut [u8],
+    size: u32,
+) -> Taken
     ensures { 32768 < size → result ≡ Cut }
 {
     if REQUEST_LIMIT < size {
         return Taken::Cut;
     }
-    take_request(state, medium, stage, size as usize)
+    take_request(input, state, medium, stage, size as usize)
 }
 
 // A length of which n bytes were read.
-fn measured(state: &mut [u8], medium: &mut [u8], stage: &mut [u8], n: usize, size: u32) -> Taken
+fn measured<I: Read>(
+    input: &mut I,
+    state: &mut [u8],
+    medium: &mut [u8],
+    stage: &mut [u8],
+    n: usize,
+    size: u32,
+) -> Taken
     ensures value { n ≡ 0 → result ≡ End }
     ensures value_2 { 0 < n → n < 4 → result ≡ Cut }
 {
@@ -103,23 +145,36 @@ fn measured(state: &mut [u8], medium: &mut [u8], stage: &mut [u8], n: usize, siz
     if n < 4 {
         return Taken::Cut;
     }
-    sized(state, medium, stage, size)
+    sized(input, state, medium, stage, size)
 }
 
-fn next_request(state: &mut [u8], medium: &mut [u8], stage: &mut [u8]) -> Taken {
+fn next_request<I: Read>(
+    input: &mut I,
+    state: &mut [u8],
+    medium: &mut [u8],
+    stage: &mut [u8],
+) -> Taken {
     let mut length = [0u8; 4];
-    let n = io::read_full(STDIN_FILENO, &mut length);
-    measured(state, medium, stage, n, wire::read32(&length, 0))
+    let n = read_full(input, &mut length);
+    measured(input, state, medium, stage, n, wire::read32(&length, 0))
 }
 
 // Reads on, prints what was taken, and counts it. Requests are numbered from 1, as they are counted.
-fn take_next(totals: Totals, state: &mut [u8], medium: &mut [u8], stage: &mut [u8]) -> Step
+fn take_next<P: Print, I: Read>(
+    rt: &P,
+    input: &mut I,
+    totals: Totals,
+    state: &mut [u8],
+    medium: &mut [u8],
+    stage: &mut [u8],
+) -> Step
     requires sums { Sums totals }
     requires requests_bound { totals.requests < 18446744073709551615 }
     ensures { result.totals ≡ after totals result.taken }
 {
-    let taken = next_request(state, medium, stage);
-    say_taken(totals.requests + 1, taken);
+    let taken = next_request(input, state, medium, stage);
+    // A line that cannot be written is lost, and changes no total.
+    let _ = say_taken(rt, totals.requests + 1, taken);
     let counted = tally::after(totals, taken);
     Step {
         taken: taken,
@@ -129,12 +184,19 @@ fn take_next(totals: Totals, state: &mut [u8], medium: &mut [u8], stage: &mut [u
 
 // The totals of the session. A proved loop has to end, and nothing says that the input does, so it stops at a number of requests that no
 // session reaches. No total can overflow: each is at most the number of requests, and that is below the loop's bound.
-pub fn run(state: &mut [u8], medium: &mut [u8], stage: &mut [u8]) -> Totals
+#[tactic(auto, using(crate::proofs::SessionLaws::loop_none, crate::proofs::SessionLaws::loop_less))]
+pub fn run<P: Print, I: Read>(
+    rt: &P,
+    input: &mut I,
+    state: &mut [u8],
+    medium: &mut [u8],
+    stage: &mut [u8],
+) -> Totals
     ensures { Sums result }
 {
     let mut totals = tally::none();
     while totals.requests < 18446744073709551615 {
-        let next = take_next(totals, state, medium, stage);
+        let next = take_next(rt, input, totals, state, medium, stage);
         let taken = next.taken;
         totals = next.totals;
         if tally::is_last(taken) {

@@ -14,6 +14,7 @@ pub fn disks_size(tables: &[u8]) -> usize
 }
 
 // The same of a state.
+#[tactic(auto, using(crate::proofs::Laws::medium_lent))]
 pub fn medium_size(state: &[u8]) -> usize
     requires { length state.now ≡ state_size }
     ensures { result ≡ medium_size (state_of state.now).adapter }
@@ -22,6 +23,7 @@ pub fn medium_size(state: &[u8]) -> usize
 }
 
 // No two rows share.
+#[tactic(auto, using(crate::proofs::Laws::rows_lent))]
 pub fn rows_apart(tables: &[u8]) -> bool
     requires tables_len { length tables.now ≡ tables_size }
     requires few_rows { FewRows (tables_of tables.now) }
@@ -33,6 +35,7 @@ pub fn rows_apart(tables: &[u8]) -> bool
     )
 }
 
+#[tactic(auto, unfolding(crate::specs::State::tables_hold))]
 fn tables_hold(tables: &[u8]) -> bool
     requires tables_len { length tables.now ≡ tables_size }
     requires few_phys { FewPhys (tables_of tables.now) × FewRows (tables_of tables.now) }
@@ -52,6 +55,7 @@ fn counts_right(tables: &[u8]) -> bool
     adapter::counts_hold(tables::phy_count(tables), tables::row_count(tables))
 }
 
+#[tactic(auto, using(adapter::proofs::StoreLaws::phys_bound, adapter::proofs::StoreLaws::rows_bound, laws::specs::Choice::and_then, laws::specs::Choice::and_not, laws::specs::Choice::flag), unfolding(crate::specs::State::adapter_holds))]
 fn adapter_holds(tables: &[u8]) -> bool
     requires { length tables.now ≡ tables_size }
     ensures { result ≡ adapter_holds (tables_of tables.now) }
@@ -63,6 +67,7 @@ fn adapter_holds(tables: &[u8]) -> bool
 }
 
 // The tables' part of a state, and nothing of its level.
+#[tactic(auto, using(crate::proofs::Laws::holds_lent))]
 fn part_holds(state: &[u8]) -> bool
     requires { length state.now ≡ state_size }
     ensures { result ≡ adapter_holds (state_of state.now).adapter }
@@ -71,6 +76,7 @@ fn part_holds(state: &[u8]) -> bool
 }
 
 // The state is one that a request may be given.
+#[tactic(auto, using(laws::specs::Choice::and_then, laws::specs::Choice::and_not), unfolding(crate::specs::State::state_holds, crate::specs::State::state_of))]
 pub fn state_holds(state: &[u8]) -> bool
     requires { length state.now ≡ state_size }
     ensures { result ≡ state_holds (state_of state.now) }

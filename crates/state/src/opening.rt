@@ -21,6 +21,7 @@ fn refuse_opening(state: &mut [u8], call: u32) -> u32
 }
 
 // Sets the level.
+#[tactic(auto, using(crate::proofs::Laws::accepted_state))]
 fn accept(state: &mut [u8], level: Level) -> u32
     requires { length state.old ≡ state_size }
     ensures { opens result (state_of state.new) ≡ opened level (state_of state.old).adapter }
@@ -40,6 +41,7 @@ fn settle(state: &mut [u8], number: u32, level: Level) -> u32
 }
 
 // The negotiated rates, the rows and the medium's length.
+#[tactic(auto, using(laws::specs::Choice::picks), unfolding(crate::specs::Open::tables_number))]
 fn tables_number(tables: &[u8], size: usize) -> u32
     requires tables_len { length tables.now ≡ tables_size }
     requires few_phys { FewPhys (tables_of tables.now) × FewRows (tables_of tables.now) }
@@ -58,6 +60,7 @@ fn tables_number(tables: &[u8], size: usize) -> u32
 }
 
 // What the file holds, in the tables.
+#[tactic(auto, using(crate::proofs::Laws::file_phys, crate::proofs::Laws::file_rows, crate::proofs::Laws::number_judged, crate::proofs::Laws::tables_read, crate::proofs::Laws::number_refused))]
 fn load(tables: &mut [u8], file: &[u8], size: usize) -> u32
     requires { length tables.old ≡ tables_size }
     ensures value { result ≡ open_number (file_read file.now) size }
@@ -71,6 +74,7 @@ fn load(tables: &mut [u8], file: &[u8], size: usize) -> u32
 }
 
 // The tables behind the level's byte are lent.
+#[tactic(auto, using(crate::proofs::Laws::loaded))]
 fn load_state(state: &mut [u8], file: &[u8], size: usize) -> u32
     requires { length state.old ≡ state_size }
     ensures value { result ≡ open_number (file_read file.now) size }
@@ -79,6 +83,7 @@ fn load_state(state: &mut [u8], file: &[u8], size: usize) -> u32
     load(&mut state[1..], file, size)
 }
 
+#[tactic(auto, using(crate::proofs::Laws::file_settled))]
 fn open_file(state: &mut [u8], level: Level, file: &[u8], size: usize) -> u32
     requires { length state.old ≡ state_size }
     ensures { opens result (state_of state.new) ≡ opened_file level (file_read file.now) size }
@@ -87,6 +92,7 @@ fn open_file(state: &mut [u8], level: Level, file: &[u8], size: usize) -> u32
     settle(state, number, level)
 }
 
+#[tactic(auto, using(laws::specs::Choice::picks), unfolding(crate::specs::Open::opened_text))]
 fn open_text(state: &mut [u8], t: TextLevel, file: &[u8], size: usize) -> u32
     requires { length state.old ≡ state_size }
     ensures { opens result (state_of state.new) ≡ opened_text t file.now size }

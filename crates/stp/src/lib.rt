@@ -1,4 +1,5 @@
 // Where the fields of a code 25's body stand (6.12), each said once. The body is what stands behind the header; its command FIS starts at 16.
+#![tactic(auto)]
 
 pub const PHY: usize = 0;
 

@@ -45,6 +45,9 @@ module _ (t b : List ℕ) (n : ℕ) (size : length t ≡ tables_size) (h : n < 3
   behind : (at m : ℕ) → rows_start ≤ at → part after at m ≡ part t at m
   behind at m l = part_above t (phy_start n) b at m (omega arith) (omega arith)
 
+  byte_behind : (i : ℕ) → rows_start ≤ i → get_or after i 0 ≡ get_or t i 0
+  byte_behind i l = get_above t (phy_start n) b i 0 (omega arith) (omega arith)
+
   -- the tables after it are those before with another phy n
   tables_stored : (phy : Phy) → phy_of b ≡ phy → tables_of after ≡ with_phy (tables_of t) n phy
   unfolding tables_of with_phy
@@ -58,7 +61,7 @@ module _ (t b : List ℕ) (n : ℕ) (size : length t ≡ tables_size) (h : n < 3
         behind controller_start 176 (omega arith),
         behind status_start 36 (omega arith),
         behind connectors_start connectors_size (omega arith),
-        get_above t (phy_start n) b staged_start 0 (omega arith) (omega arith),
+        byte_behind staged_start (omega arith),
         behind (staged_start + 1) 8 (omega arith),
       )
 

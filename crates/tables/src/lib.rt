@@ -1,5 +1,7 @@
 // The tables and counters of an adapter as bytes that the caller lends (specs/Tables.antt names each of them). A phy is read by value and
 // stored in its place; nothing else is copied. The level stands apart, before these bytes, and is never lent with them.
+#![tactic(auto)]
+
 mod phys;
 
 ghost use Rattle.std.specs.Prelude.{◌≡◌, ltb, length};
@@ -29,6 +31,7 @@ pub const CONNECTORS: usize = 5028;
 // The byte that says whether firmware is staged; its revisions stand behind it.
 pub const STAGED: usize = 6180;
 
+#[tactic(auto, unfolding(crate::specs::Tables::tables_of))]
 pub fn phy_count(tables: &[u8]) -> u8
     requires { length tables.now ≡ tables_size }
     ensures { result ≡ (tables_of tables.now).phy_count }
@@ -36,6 +39,7 @@ pub fn phy_count(tables: &[u8]) -> u8
     tables[0]
 }
 
+#[tactic(auto, unfolding(crate::specs::Tables::tables_of))]
 pub fn row_count(tables: &[u8]) -> u8
     requires { length tables.now ≡ tables_size }
     ensures { result ≡ (tables_of tables.now).row_count }
@@ -44,6 +48,7 @@ pub fn row_count(tables: &[u8]) -> u8
 }
 
 // There is a phy with that number.
+#[tactic(auto, unfolding(crate::specs::Tables::tables_of))]
 pub fn phy_exists(tables: &[u8], n: u8) -> bool
     requires { length tables.now ≡ tables_size }
     ensures { result ≡ ltb n (tables_of tables.now).phy_count }

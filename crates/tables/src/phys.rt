@@ -18,6 +18,7 @@ fn phy_start(n: PhyIdentifier) -> usize
 }
 
 // The phy with that identifier.
+#[tactic(auto, using(crate::proofs::Laws::phy_lent))]
 pub fn phy_at(tables: &[u8], n: PhyIdentifier) -> Phy
     requires n_bound { n.0 < 32 }
     requires tables_len { length tables.now ≡ tables_size }
@@ -28,6 +29,7 @@ pub fn phy_at(tables: &[u8], n: PhyIdentifier) -> Phy
 }
 
 // Its port: one byte.
+#[tactic(auto, using(crate::proofs::Laws::port_read))]
 pub fn port_at(tables: &[u8], n: PhyIdentifier) -> PortIdentifier
     requires n_bound { n.0 < 32 }
     requires tables_len { length tables.now ≡ tables_size }
@@ -38,6 +40,7 @@ pub fn port_at(tables: &[u8], n: PhyIdentifier) -> PortIdentifier
 }
 
 // Its PHY_ENTITY, put at an index.
+#[tactic(auto, using(crate::proofs::Laws::entity_put, crate::proofs::Laws::tables_entity))]
 pub fn put_entity(tables: &[u8], n: PhyIdentifier, d: &mut [u8], at: usize)
     requires n_bound { n.0 < 32 }
     requires tables_len { length tables.now ≡ tables_size }
@@ -48,6 +51,7 @@ pub fn put_entity(tables: &[u8], n: PhyIdentifier, d: &mut [u8], at: usize)
     wire::copy_part(d, at, tables, phy_start(n), 64);
 }
 
+#[tactic(auto, using(crate::proofs::StoredLaws::counters_stored))]
 fn write_counters(block: &mut [u8], counters: [u32; 4])
     requires { length block.old ≡ phy_size }
     ensures { block.new ≡ splice block.old 64 (counter_bytes counters) }
@@ -88,6 +92,7 @@ fn write_signature(block: &mut [u8], signature: [u8; 20])
 }
 
 // Writes a phy's bytes over those of another.
+#[tactic(auto, unfolding(crate::specs::PhyBytes::written))]
 fn write_phy(block: &mut [u8], phy: Phy)
     requires { length block.old ≡ phy_size }
     ensures { block.new ≡ written block.old phy }

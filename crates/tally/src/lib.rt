@@ -1,10 +1,12 @@
 // The closing tally of a session (W-206): a kind for each request's line, by the two numbers that it shows, and how many lines of each kind there are.
+#![tactic(auto)]
+
 ghost use Rattle.std.specs.Prelude.{◌≡◌, ◌+◌, ◌<◌};
 ghost use Rattle.tally.specs.Kinds.{is_granted, is_denied, is_short, is_otherwise};
 ghost use Rattle.tally.specs.Totals.{one, no_totals, counted, after, is_last, Sums};
 
 // A request's line: the call's number, and the return code where that is 0.
-#[derive(Drop)]
+#[derive(Clone, Copy)]
 pub struct Line {
     pub call: u32,
     pub code: u32,
@@ -14,7 +16,7 @@ pub struct Line {
 pub const NO_CODE: u32 = 4294967295;
 
 // What comes of reading on in a session.
-#[derive(Drop)]
+#[derive(Clone, Copy)]
 pub enum Taken {
     // a request was handled, and has its line
     Handled(Line),
@@ -25,7 +27,7 @@ pub enum Taken {
 }
 
 // How many lines there are, and how many of each kind: `otherwise` is otherwise refused, `short` the 100s.
-#[derive(Drop)]
+#[derive(Clone, Copy)]
 pub struct Totals {
     pub requests: u64,
     pub granted: u64,
@@ -83,6 +85,7 @@ pub fn none() -> Totals
 }
 
 // One line more. The four sum to the requests, so room for one more request is room in each.
+#[tactic(auto, using(crate::proofs::TotalsLaws::counted_by))]
 pub fn count(totals: Totals, line: Line) -> Totals
     requires sums { Sums totals }
     requires requests_bound { totals.requests < 18446744073709551615 }

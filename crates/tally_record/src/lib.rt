@@ -1,4 +1,6 @@
 // The tally of a record, which has a line of 8 bytes for each request of a run (W-206).
+#![tactic(auto)]
+
 ghost use Rattle.std.specs.Prelude.{◌≡◌, ◌+◌, ◌*◌, ◌≤◌, length};
 ghost use Rattle.laws.specs.Splice.{splice};
 ghost use Rattle.wire.specs.Number.{bytes};
@@ -23,6 +25,7 @@ fn line_at(lines: &[u8], k: usize) -> Line
 }
 
 // The totals of the whole lines of a record.
+#[tactic(auto, using(tally::proofs::RecordLaws::record_loop))]
 fn tally(lines: &[u8]) -> Totals
     ensures { result ≡ tally_of (lines_in lines.now) }
 {
@@ -37,6 +40,7 @@ fn tally(lines: &[u8]) -> Totals
 }
 
 // Writes a number of 64 bits at an index.
+#[tactic(auto, using(tally::proofs::RecordLaws::word64))]
 fn write64(d: &mut [u8], at: usize, n: u64)
     requires { at + 8 ≤ length d.old }
     ensures { d.new ≡ splice d.old at (bytes 8 n) }
@@ -66,6 +70,7 @@ fn write_totals(d: &mut [u8], totals: Totals)
 }
 
 // Writes the totals of a record at the start of the bytes lent for them, and gives 0; where these are too few, 100, and they stay.
+#[tactic(auto, using(tally::proofs::RecordLaws::tally_short, tally::proofs::RecordLaws::tally_wrote))]
 pub fn write_tally(lines: &[u8], totals: &mut [u8]) -> u32
     ensures { wrote result totals.new ≡ tallied lines.now totals.old }
 {

@@ -1,4 +1,6 @@
 // Bytes that are 0. Every contract is an equation with a definition of `laws`, of `numbers` or of `compare`.
+#![tactic(auto)]
+
 ghost use Rattle.std.specs.Prelude.{◌≡◌, ℕ, ◌+◌, ◌*◌, ◌≤◌, length, get_or};
 ghost use Rattle.laws.specs.Splice.{part};
 ghost use Rattle.laws.specs.Sum.{sum_to};
@@ -8,6 +10,7 @@ ghost use Rattle.compare.specs.Same.{all_zero};
 
 use numbers::read32;
 
+#[tactic(auto, using(laws::specs::Choice::picks), unfolding(laws::specs::Largest::larger))]
 fn larger(a: u8, b: u8) -> u8
     ensures { result ≡ larger a b }
 {
@@ -17,6 +20,7 @@ fn larger(a: u8, b: u8) -> u8
     a
 }
 
+#[tactic(auto, using(laws::specs::Largest::largest_loop))]
 fn largest_at(s: &[u8], at: usize, n: usize) -> u8
     requires { at + n ≤ length s.now }
     ensures { result ≡ largest_to (λ (i : ℕ). get_or s.now (at + i) 0) n }
@@ -31,6 +35,7 @@ fn largest_at(s: &[u8], at: usize, n: usize) -> u8
 }
 
 // Many bytes: the largest of them tells. A loop without an early exit takes 16 or more at a time.
+#[tactic(auto, using(crate::proofs::ZeroLaws::zero_by_largest))]
 fn many_zero(s: &[u8], at: usize, n: usize) -> bool
     requires { at + n ≤ length s.now }
     ensures { result ≡ all_zero (part s.now at n) }
@@ -44,6 +49,7 @@ fn wide(x: u8) -> u64
     x as u64
 }
 
+#[tactic(auto, using(laws::specs::Sum::sum_loop))]
 fn sum_at(s: &[u8], at: usize, n: usize) -> u64
     requires { (n ≤ 64) × (at + n ≤ length s.now) }
     ensures value { result ≡ sum_to (λ (i : ℕ). get_or s.now (at + i) 0) n }
@@ -65,6 +71,7 @@ fn word_at(s: &[u8], at: usize) -> u64
     read32(s, at) as u64
 }
 
+#[tactic(auto, using(laws::specs::Sum::sum_loop))]
 fn words_at(s: &[u8], at: usize, n: usize) -> u64
     requires { (n ≤ 64) × (at + 4 * n ≤ length s.now) }
     ensures value { result ≡ sum_to (λ (i : ℕ). number (part s.now (at + 4 * i) 4)) n }
@@ -80,6 +87,7 @@ fn words_at(s: &[u8], at: usize, n: usize) -> u64
 }
 
 // Few bytes: the sum of their words, and of the bytes that are left, tells.
+#[tactic(auto, using(crate::proofs::ZeroLaws::zero_by_sum))]
 fn few_zero(s: &[u8], at: usize, n: usize) -> bool
     requires { (n ≤ 64) × (at + n ≤ length s.now) }
     ensures { result ≡ all_zero (part s.now at n) }

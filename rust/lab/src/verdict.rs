@@ -13,7 +13,7 @@ const MEDIUM_LENGTH: u32 = 106;
 
 const NOTHING_ASKED: &str =
     "no request gets past its header's checks, so no level was asked for anything";
-const NOT_AS_PROVED: &str = "the high run without the requests denied low is not the low run, as it is proved to be; make the library anew: rt staticlib exports";
+const NOT_AS_PROVED: &str = "the high run without the requests denied low is not the low run, as it is proved to be; make the library anew: rt lib in crates/exports";
 
 /// Why the session is not run, whatever it holds: an opening is refused, the levels are the wrong way round, or its name is that of the
 /// other form.

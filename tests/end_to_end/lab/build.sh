@@ -3,7 +3,8 @@
 tree="$work/a tree"
 tools=$work/tools
 mkdir -p "$tree/target" "$tools"
-cp -r lab crates crates.txt samples include "$tree/"
+cp -r lab crates.txt samples include "$tree/"
+tar -cf - --exclude='crates/*/out' crates | tar -C "$tree" -xf -
 mkdir "$tree/rust" && tar -C rust -cf - --exclude=./target . | tar -C "$tree/rust" -xf -
 cat >"$tools/rt" <<END
 #!/bin/sh
@@ -11,7 +12,7 @@ echo "\$@" >>"$work/proved"
 [ ! -e "$work/broken" ] || { echo "rt: it is broken"; exit 1; }
 echo "library wire: modules loaded=1"
 echo "rt: wire proved (1 s)"
-mkdir -p target/staticlib && cp "$PWD/$archive" target/staticlib/
+mkdir -p out && cp "$PWD/$archive" out/
 END
 chmod +x "$tools/rt"
 
@@ -44,7 +45,7 @@ stale_program() {
     [ $? -eq 1 ] && grep -q 'Compiling lab ' "$work/errors" && grep -q '2002 phy is not there' "$work/printed"
 }
 removed_source() {
-    rm "$tree/crates/compare/must-fail/"*.edit
+    rm "$tree/crates/compare/proofs/"*.antt
     in_tree
     [ $? -eq 1 ] && [ "$(proofs)" -eq 3 ]
 }
@@ -113,7 +114,7 @@ try "a library that cannot be proved" does_not_prove
 try "no rt" no_tool "the library is missing or older than crates/, and there is no 'rt' to make it" rt
 try "a program that does not compile" does_not_compile
 try "no cargo" no_tool "the program is missing or older than rust/, and there is no 'cargo' to make it" cargo
-try "--help without anything made" eval 'rm -rf "$tree/target" "$tree/rust/target"; in_tree --help && diff rust/lab/src/usage.txt "$work/printed" && diff /dev/null "$work/errors"'
+try "--help without anything made" eval 'rm -rf "$tree/crates/exports/out" "$tree/rust/target"; in_tree --help && diff rust/lab/src/usage.txt "$work/printed" && diff /dev/null "$work/errors"'
 try "an edited copy of a sample runs the edited session" edited_copy
 try "an edited copy of a sample runs the edited adapter" edited_adapter
 try "a binary put beside a text later" newer_binary

@@ -73,7 +73,7 @@ fn the_needs_make_39_ranges_and_none_fewer_cover_the_codes() {
 #[test]
 fn the_proved_code_has_an_arm_for_each_range_and_goes_by_nothing_else() {
     let (head, body) = NEED.split_once("match command {\n").expect("a match");
-    assert!(head.ends_with("⌝ }\n{\n    "), "code before the match");
+    assert!(head.ends_with(" }\n{\n    "), "code before the match");
     let (arms, rest) = body.split_once("\n    }\n").expect("its end");
     let arms: Vec<Range> = arms
         .lines()
