@@ -3,7 +3,7 @@ archive=crates/exports/out/libexports.a
 
 # stale: the archive is missing, or older than a source in crates/; what rt makes in crates/*/out is none.
 stale() {
-    [ ! -f "$archive" ] || [ -n "$(find crates/*/src crates/*/specs crates/*/proofs crates.txt -newer "$archive" -print -quit 2>/dev/null)" ]
+    [ ! -f "$archive" ] || [ -n "$(find crates/*/{src,specs,proofs,must-fail} crates.txt -newer "$archive" -print -quit 2>/dev/null)" ]
 }
 
 # make_archive LOG: makes the archive if it is stale, what that prints into LOG; a line and status 1 if it cannot be made.

@@ -8,7 +8,7 @@
 ghost use Rattle.std.specs.Prelude.{◌≡◌, ◌+◌, ◌<◌, ◌≤◌, length};
 
 use std::io;
-use std::io::{BufWriter, Write};
+use std::io::Write;
 
 fn number<W: Write>(out: &mut W, n: u32) -> io::Result<()> {
     write!(out, "{n} ")
@@ -296,7 +296,7 @@ fn whole_disk<W: Write>(out: &mut W, disk: &mut [u8], body: &mut [u8]) -> io::Re
 }
 
 fn main(rt: HostRuntime) -> io::Result<()> {
-    let mut out = BufWriter::new(rt.alloc(), rt.stdout())?;
+    let mut out = rt.stdout();
     let mut disk = [0u8; 8192];
     let mut body = [0u8; 8704];
     pattern(&mut disk, 4, 0);
@@ -309,6 +309,5 @@ fn main(rt: HostRuntime) -> io::Result<()> {
     no_data_length(&mut out, &mut disk, &mut body)?;
     sectors(&mut out, &disk)?;
     whole_disk(&mut out, &mut disk, &mut body)?;
-    sectors(&mut out, &disk)?;
-    out.flush()
+    sectors(&mut out, &disk)
 }

@@ -7,7 +7,7 @@ ghost use Rattle.std.specs.Prelude.{◌≡◌, ◌<◌, ◌≤◌, ◌+◌, ◌*
 ghost use Rattle.tables.specs.Tables.{tables_size};
 
 use std::io;
-use std::io::{BufWriter, Read, Write};
+use std::io::{Read, Write};
 
 // A line's numbers.
 #[derive(Clone, Copy)]
@@ -339,9 +339,8 @@ fn read_full<R: Read>(input: &mut R, buf: &mut [u8]) -> usize
 }
 
 fn main(rt: HostRuntime) -> io::Result<()> {
-    let mut out = BufWriter::new(rt.alloc(), rt.stdout())?;
+    let mut out = rt.stdout();
     let mut input = large_buffer();
     let n = read_full(&mut rt.stdin(), &mut input);
-    try_lines(&mut out, &input[..n])?;
-    out.flush()
+    try_lines(&mut out, &input[..n])
 }

@@ -5,7 +5,7 @@
 ghost use Rattle.std.specs.Prelude.{◌≤◌, ◌<◌, length};
 
 use std::io;
-use std::io::{BufWriter, Read, Write};
+use std::io::{Read, Write};
 
 // Reads until the buffer is full, the input ends or a read fails, and gives the number of bytes.
 fn read_full<R: Read>(input: &mut R, buf: &mut [u8]) -> usize
@@ -84,8 +84,7 @@ fn show_needs<W: Write>(out: &mut W) -> io::Result<()> {
 fn main(rt: HostRuntime) -> io::Result<()> {
     let mut input = [0u8; 8192];
     let n = read_full(&mut rt.stdin(), &mut input);
-    let mut out = BufWriter::new(rt.alloc(), rt.stdout())?;
+    let mut out = rt.stdout();
     show_lines(&mut out, &input[..n])?;
-    show_needs(&mut out)?;
-    out.flush()
+    show_needs(&mut out)
 }

@@ -22,7 +22,7 @@ ghost use Rattle.case_lines.specs.Lines.{filled_by, header_put, request_bytes, b
 use case_lines::{damage, digest, state_digest};
 use case_words::{end, field, patch, word};
 use std::io;
-use std::io::{BufWriter, Read, Write};
+use std::io::{Read, Write};
 
 fn say_number<W: Write>(out: &mut W, n: u64) -> io::Result<()> {
     write!(out, " {n}")
@@ -285,7 +285,7 @@ fn read_full<R: Read>(input: &mut R, buf: &mut [u8]) -> usize
 }
 
 fn main(rt: HostRuntime) -> io::Result<()> {
-    let mut out = BufWriter::new(rt.alloc(), rt.stdout())?;
+    let mut out = rt.stdout();
     let mut input = room();
     let mut file = large_buffer();
     let mut medium = room();
@@ -299,6 +299,5 @@ fn main(rt: HostRuntime) -> io::Result<()> {
         &mut file,
         &mut medium,
         &mut stage,
-    )?;
-    out.flush()
+    )
 }

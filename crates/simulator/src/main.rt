@@ -11,7 +11,6 @@ ghost use Rattle.std.specs.Prelude.{◌≤◌, length};
 use print::{say_open, say_title, say_totals};
 use session::{read_full, run};
 use std::fs::File;
-use std::io;
 use std::io::{Read, Stdin};
 use std::rt::Files;
 
@@ -35,36 +34,25 @@ fn read_file<F: Files>(files: &F, path: &str, buf: &mut [u8]) -> usize
 }
 
 // Opens the adapter, and handles the session where that is accepted.
-fn simulate<P: Print, I: Read>(
-    rt: &P,
-    input: &mut I,
-    text: &[u8],
-    file: &[u8],
-    medium: &mut [u8],
-) -> io::Result<()> {
+fn simulate<P: Print, I: Read>(rt: &P, input: &mut I, text: &[u8], file: &[u8], medium: &mut [u8]) {
     let mut state = [0u8; dispatch::SIZE];
     let mut stage = [0u8; dispatch::STAGE_SIZE];
     let call = dispatch::open(text, file, medium, &mut state);
     if call == 0 {
-        say_title(rt)?;
-        return say_totals(rt, run(rt, input, &mut state, medium, &mut stage));
+        say_title(rt);
+        say_totals(rt, run(rt, input, &mut state, medium, &mut stage));
+        return;
     }
-    say_open(rt, call)
+    say_open(rt, call);
 }
 
 // The disks of p phys.
-fn with_disks<P: Print, I: Read>(
-    rt: &P,
-    input: &mut I,
-    text: &[u8],
-    file: &[u8],
-    p: u8,
-) -> io::Result<()>
+fn with_disks<P: Print, I: Read>(rt: &P, input: &mut I, text: &[u8], file: &[u8], p: u8)
     requires { p ≤ 7 }
 {
     let mut medium = [0u8; 57344];
     let size = 8192 * p as usize;
-    simulate(rt, input, text, file, &mut medium[0..size])
+    simulate(rt, input, text, file, &mut medium[0..size]);
 }
 
 // Byte 0 of the file, which is its phy count.
@@ -75,18 +63,19 @@ fn phy_count(file: &[u8]) -> u8 {
     file[0]
 }
 
-fn start<P: Print, I: Read>(rt: &P, input: &mut I, text: &[u8], file: &[u8]) -> io::Result<()> {
+fn start<P: Print, I: Read>(rt: &P, input: &mut I, text: &[u8], file: &[u8]) {
     let p = phy_count(file);
     if PHY_LIMIT < p {
-        return say_open(rt, codes::BAD_FIELD);
+        say_open(rt, codes::BAD_FIELD);
+        return;
     }
-    with_disks(rt, input, text, file, p)
+    with_disks(rt, input, text, file, p);
 }
 
-fn main(rt: HostRuntime) -> io::Result<()> {
+fn main(rt: HostRuntime) {
     let mut text = [0u8; TEXT_LIMIT];
     let mut file = [0u8; FILE_LIMIT];
     let t = read_file(&rt, "level.txt", &mut text);
     let f = read_file(&rt, "adapter.bin", &mut file);
-    start(&rt, &mut rt.stdin(), &text[0..t], &file[0..f])
+    start(&rt, &mut rt.stdin(), &text[0..t], &file[0..f]);
 }

@@ -173,8 +173,7 @@ fn take_next<P: Print, I: Read>(
     ensures { result.totals ≡ after totals result.taken }
 {
     let taken = next_request(input, state, medium, stage);
-    // A line that cannot be written is lost, and changes no total.
-    let _ = say_taken(rt, totals.requests + 1, taken);
+    say_taken(rt, totals.requests + 1, taken);
     let counted = tally::after(totals, taken);
     Step {
         taken: taken,

@@ -10,8 +10,10 @@ cat >"$tools/rt" <<END
 #!/bin/sh
 echo "\$@" >>"$work/proved"
 [ ! -e "$work/broken" ] || { echo "rt: it is broken"; exit 1; }
-echo "library wire: modules loaded=1"
-echo "rt: wire proved (1 s)"
+echo "rt: chose --jobs 2 for wire"
+echo "fn wire::Writer::put: proved"
+echo "library numbers: modules loaded=1 checked=0"
+echo "crate wire: modules loaded=1 checked=1"
 mkdir -p out && cp "$PWD/$archive" out/
 END
 chmod +x "$tools/rt"
@@ -27,7 +29,7 @@ first_build() {
     in_tree "$tree/samples/writes"
     [ $? -eq 1 ] || { cat "$work/errors" && return 1; }
     diff <(tail -n +2 "$here/lab/writes.out") <(tail -n +2 "$work/printed") &&
-        grep -q '^lab: proving and compiling the library' "$work/errors" && grep -q '^lab: wire proved (1 s)$' "$work/errors" &&
+        grep -q '^lab: proving and compiling the library' "$work/errors" && grep -q '^lab: proving wire$' "$work/errors" && grep -q '^lab: wire is checked$' "$work/errors" &&
         grep -q '^lab: compiling the program$' "$work/errors" && grep -q 'Compiling lab ' "$work/errors" && [ "$(proofs)" -eq 1 ]
 }
 no_build() {
@@ -37,7 +39,7 @@ no_build() {
 stale_library() {
     touch "$tree/crates/wire/src/lib.rt"
     in_tree
-    [ $? -eq 1 ] && grep -q '^lab: wire proved' "$work/errors" && [ "$(proofs)" -eq 2 ]
+    [ $? -eq 1 ] && grep -q '^lab: wire is checked$' "$work/errors" && [ "$(proofs)" -eq 2 ]
 }
 stale_program() {
     sed -i 's/"phy does not exist"/"phy is not there"/' "$tree/rust/labkit/src/names.rs"
@@ -45,7 +47,7 @@ stale_program() {
     [ $? -eq 1 ] && grep -q 'Compiling lab ' "$work/errors" && grep -q '2002 phy is not there' "$work/printed"
 }
 removed_source() {
-    rm "$tree/crates/compare/proofs/"*.antt
+    rm "$tree/crates/compare/must-fail/"*.edit
     in_tree
     [ $? -eq 1 ] && [ "$(proofs)" -eq 3 ]
 }
