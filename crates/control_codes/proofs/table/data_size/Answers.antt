@@ -1,6 +1,5 @@
 use Rattle.std.proofs.Common.{rules}
 use Rattle.control_codes.proofs.TableLaws.{passthrough_room, download_room}
-use Rattle.control_codes.specs.Table.{data_size}
 use Rattle.control_codes.proofs.table.data_size.Goals as goal
 
 pub read32-requires : goal.read32-requires
