@@ -10,8 +10,6 @@ use lib.ListN.{length, take, drop, length-drop}
 use borrow.Author.Tests.{lt-leb, le-leb, leb-true, leb-false}
 use Rattle.laws.specs.Choice.{by_bool, both_left, both_right}
 use Rattle.laws.specs.Splice.{rest}
-use Rattle.wire.specs.Number.{number}
-use Rattle.header.specs.declared.Kind.TheVariants.{Linux}
 use Rattle.control_codes.specs.Table.{structure_size, data_size}
 use Rattle.header.specs.Srb.{length_holds}
 use Rattle.header.specs.Linux.{linux_length, linux_body, linux_length_holds}

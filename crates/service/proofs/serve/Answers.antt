@@ -1,7 +1,5 @@
 use Rattle.std.proofs.Common.{rules}
 use Rattle.service.proofs.Laws.{passthrough_lent, download_lent}
-use Rattle.service.specs.Serve.{served}
-use Rattle.control_codes.specs.Table.{structure_size}
 use Rattle.service.proofs.serve.Goals as goal
 
 pub pass_through-requires-clause-body_in_bounds : goal.pass_through-requires-clause-body_in_bounds

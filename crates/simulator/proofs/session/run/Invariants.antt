@@ -1,4 +1,4 @@
-use Rattle.std.proofs.Common.{◌-◌, ◌≤◌}
+use Rattle.std.proofs.Common.{◌-◌}
 use Rattle.tally.specs.Totals.{Sums}
 use Rattle.simulator.proofs.session.run.Given as goal
 
