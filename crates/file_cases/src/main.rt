@@ -6,8 +6,9 @@
 ghost use Rattle.std.specs.Prelude.{◌≡◌, ◌<◌, ◌≤◌, ◌+◌, ◌*◌, length};
 ghost use Rattle.tables.specs.Tables.{tables_size};
 
+use reading::{large_buffer, read_full};
 use std::io;
-use std::io::{Read, Write};
+use std::io::Write;
 
 // A line's numbers.
 #[derive(Clone, Copy)]
@@ -314,28 +315,6 @@ fn try_lines<W: Write>(out: &mut W, input: &[u8]) -> io::Result<()> {
         i += 1;
     }
     Ok(())
-}
-
-// 65,536 zeros.
-fn large_buffer() -> [u8; 65536]
-    ensures { 65536 ≡ length result }
-{
-    [0; 65536]
-}
-
-// Reads until the buffer is full, the input ends or a read fails, and gives the number of bytes.
-fn read_full<R: Read>(input: &mut R, buf: &mut [u8]) -> usize
-    ensures { result ≤ length buf.new }
-{
-    let mut done = 0;
-    while done < buf.len() {
-        match input.read(&mut buf[done..]) {
-            Ok(0) => return done,
-            Ok(n) => done += n,
-            Err(_) => return done,
-        }
-    }
-    done
 }
 
 fn main(rt: HostRuntime) -> io::Result<()> {

@@ -4,23 +4,9 @@
 
 ghost use Rattle.std.specs.Prelude.{◌≤◌, ◌<◌, length};
 
+use reading::read_full;
 use std::io;
-use std::io::{Read, Write};
-
-// Reads until the buffer is full, the input ends or a read fails, and gives the number of bytes.
-fn read_full<R: Read>(input: &mut R, buf: &mut [u8]) -> usize
-    ensures { result ≤ length buf.new }
-{
-    let mut done = 0;
-    while done < buf.len() {
-        match input.read(&mut buf[done..]) {
-            Ok(0) => return done,
-            Ok(n) => done += n,
-            Err(_) => return done,
-        }
-    }
-    done
-}
+use std::io::Write;
 
 // A text as it is, or its first 40 bytes.
 fn say_start<W: Write>(out: &mut W, text: &[u8]) -> io::Result<()> {

@@ -21,8 +21,9 @@ ghost use Rattle.case_lines.specs.Lines.{filled_by, header_put, request_bytes, b
 
 use case_lines::{damage, digest, state_digest};
 use case_words::{end, field, patch, word};
+use reading::{large_buffer, read_full};
 use std::io;
-use std::io::{Read, Write};
+use std::io::Write;
 
 fn say_number<W: Write>(out: &mut W, n: u64) -> io::Result<()> {
     write!(out, " {n}")
@@ -260,28 +261,6 @@ fn room() -> [u8; 262144]
     ensures { 262144 ≡ length result }
 {
     [0; 262144]
-}
-
-// 65,536 zeros.
-fn large_buffer() -> [u8; 65536]
-    ensures { 65536 ≡ length result }
-{
-    [0; 65536]
-}
-
-// Reads until the buffer is full, the input ends or a read fails, and gives the number of bytes.
-fn read_full<R: Read>(input: &mut R, buf: &mut [u8]) -> usize
-    ensures { result ≤ length buf.new }
-{
-    let mut done = 0;
-    while done < buf.len() {
-        match input.read(&mut buf[done..]) {
-            Ok(0) => return done,
-            Ok(n) => done += n,
-            Err(_) => return done,
-        }
-    }
-    done
 }
 
 fn main(rt: HostRuntime) -> io::Result<()> {

@@ -9,7 +9,8 @@ mod session;
 ghost use Rattle.std.specs.Prelude.{◌≤◌, length};
 
 use print::{say_open, say_title, say_totals};
-use session::{read_full, run};
+use reading::read_full;
+use session::run;
 use std::fs::File;
 use std::io::{Read, Stdin};
 use std::rt::Files;

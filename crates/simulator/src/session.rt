@@ -8,6 +8,7 @@ ghost use Rattle.tally.specs.Totals.{after, Sums};
 ghost use Rattle.simulator.specs.Line.{code_in, HandledBy};
 
 use crate::print::say_taken;
+use reading::read_full;
 use std::io::Read;
 use tally::{Line, Taken, Totals};
 
@@ -25,21 +26,6 @@ const REQUEST_LIMIT: u32 = 32768;
 const HEADER_SIZE: usize = 28;
 
 const RETURN_CODE: usize = 20;
-
-// Reads until the buffer is full, the input ends or a read fails, and gives the number of bytes.
-pub fn read_full<I: Read>(input: &mut I, buf: &mut [u8]) -> usize
-    ensures { result ≤ length buf.new }
-{
-    let mut done = 0;
-    while done < buf.len() {
-        match input.read(&mut buf[done..]) {
-            Ok(0) => return done,
-            Ok(n) => done += n,
-            Err(_) => return done,
-        }
-    }
-    done
-}
 
 // The return code of a reply; none is written where the call gives a number.
 #[tactic(auto, unfolding(crate::specs::Line::code_in))]
