@@ -1,11 +1,14 @@
 -- What is proved of the definitions in specs/Digest.antt. Assumes nothing.
-use mathlib.Core.Path.{◌≡◌, refl, ◌∙◌, ap}
-use mathlib.Core.List.{List}
-use Prim.Native.Nat.{ℕ, ◌+◌, ◌-◌, ◌*◌, ◌≤◌}
+use mathlib.Core.Path.{◌≡◌, refl, sym, ◌∙◌, ap}
+use mathlib.Core.List.{List, []}
+use Prim.Native.Nat.{ℕ, ◌+◌, ◌*◌, ◌/◌, ◌<◌, ◌≤◌}
 use native.Mathlib.Numerals.{add-one}
-use native.Mathlib.Nat.{le_antisymm, add-sub_cancel_left}
-use lib.ListN.{length, take, drop}
+use native.Mathlib.Nat.{le_antisymm}
+use native.Mathlib.Omega.{arith}
+use lib.ListN.{length, get_or, take, drop}
 use borrow.Author.Rules.{rules}
+use Rattle.std.specs.Simd.{first_chunks}
+use Rattle.case_words.proofs.Chunks.{length_first_chunks, chunk_at}
 use Rattle.laws.specs.Splice.{part}
 use Rattle.case_lines.specs.Digest.{steps, byte_step, digest_of, phy_digest, phy_step, state_digest}
 
@@ -19,20 +22,31 @@ pub steps_more : (f : ℕ → ℕ → ℕ) (d k r x : ℕ) → r ≡ steps f d k
 unfolding steps
 steps_more f d k r x p q = rw add-one (q ∙ ap (λ (y : ℕ). f y k) p)
 
--- the same where the phy is lent
-pub phys_more : (phys : List ℕ) (d n r x : ℕ) → r ≡ steps (phy_step phys) d n → x ≡ phy_digest r (take (105 * n + 105 - 105 * n) (drop (105 * n) phys))
-    → x ≡ steps (phy_step phys) d (n + 1)
-unfolding part
-phys_more phys d n r x p q = steps_more (phy_step phys) d n r x p (rw add-sub_cancel_left at q)
-
 pub digest_done : (l : List ℕ) (d k r : ℕ) → k ≤ length l → length l ≤ k → r ≡ steps (byte_step l) d k → r ≡ digest_of d l
 unfolding digest_of
 digest_done l d k r h m p = p ∙ ap (steps (byte_step l) d) (le_antisymm h m)
 
-pub steps_done : (f : ℕ → ℕ → ℕ) (d k n r : ℕ) → k ≤ n → n ≤ k → r ≡ steps f d k → r ≡ steps f d n
-steps_done f d k n r h m p = p ∙ ap (steps f d) (le_antisymm h m)
+pub ruleset steps_loop = (steps_none, steps_more, digest_done, rules)
 
-pub ruleset steps_loop = (steps_none, steps_more, phys_more, digest_done, steps_done, rules)
+part_is : (l : List ℕ) (at n : ℕ) → part l at n ≡ take n (drop at l)
+unfolding part
+part_is l at n = refl
+
+-- the phys of some bytes, each a chunk
+module _ (phys : List ℕ) (each : List (List ℕ)) (d n r : ℕ) (cut : each ≡ first_chunks 105 (length phys / 105) phys) where
+  many : length each ≡ length phys / 105
+  many = ap length cut ∙ length_first_chunks 105 (length phys / 105) phys
+
+  pub phys_more : (x : ℕ) → n < length each → r ≡ steps (phy_step phys) d n → x ≡ phy_digest r (get_or each n []) → x ≡ steps (phy_step phys) d (n + 1)
+  phys_more x h p q =
+      let e : get_or each n [] ≡ part phys (105 * n) 105 =
+      ap (λ (all : List (List ℕ)). get_or all n []) cut ∙ chunk_at 105 (length phys / 105) n phys (omega (arith, many, h)) ∙ sym (part_is phys (105 * n) 105) in
+      steps_more (phy_step phys) d n r x p (q ∙ ap (phy_digest r) e)
+
+  pub phys_done : length phys ≡ 3360 → n ≤ length each → length each ≤ n → r ≡ steps (phy_step phys) d n → r ≡ steps (phy_step phys) d 32
+  phys_done l h m p = p ∙ ap (steps (phy_step phys) d) (let e : n ≡ 32 = omega (arith, many, l, h, m) in e)
+
+pub ruleset phys_loop = (steps_none, phys_more, phys_done, rules)
 
 -- ---- one call after the other
 

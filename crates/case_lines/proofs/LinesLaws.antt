@@ -9,7 +9,7 @@ use lib.Seq.{length-take-le}
 use borrow.Author.Rules.{rules}
 use Rattle.laws.specs.Splice.{splice, stores, lent_filled, rest, rest_end, splice_all}
 use Rattle.laws.specs.Ascii.{ascii}
-use Rattle.laws.specs.Clear.{zeros, cleared_all}
+use Rattle.laws.specs.Clear.{zeros}
 use Rattle.laws.specs.Fill.{list_to, length_list_to}
 use Rattle.wire.specs.Number.{bytes}
 use Rattle.state.specs.State.{state_size}
@@ -60,8 +60,8 @@ pub request_by : (x y r s : List ℕ) (n a b d : ℕ) → a ≡ field_of s 3 →
 unfolding request_bytes
 request_by x y r s n a b d p e q t f g = g ∙ rw (f, e, p, q, t)
 
-pub part_by : (d m r s : List ℕ) → m ≡ splice d 0 (zeros (length d)) → r ≡ patched m s 2 → r ≡ patched (zeros (length d)) s 2
-part_by d m r s p q = q ∙ ap (λ (l : List ℕ). patched l s 2) (cleared_all d m (length d) refl p)
+pub part_by : (d m r s : List ℕ) → m ≡ zeros (length d) → r ≡ patched m s 2 → r ≡ patched (zeros (length d)) s 2
+part_by d m r s p q = q ∙ ap (λ (l : List ℕ). patched l s 2) p
 
 -- a part of w bytes, lent and given back
 pub lent_part : (m x s : List ℕ) (at w : ℕ) → at + w ≤ length m → length x ≡ length (take (at + w - at) (drop at m))

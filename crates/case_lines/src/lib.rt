@@ -1,4 +1,4 @@
-// What the lines of a test program's input leave in a state, and the digests that are printed of slices and states. `request_cases` is the program.
+//! What the lines of a test program's input leave in a state, and the digests that are printed of slices and states. `request_cases` is the program.
 #![tactic(auto)]
 
 mod alter;
@@ -16,3 +16,6 @@ const ROWS: usize = 3537;
 const CONNECTORS: usize = 5029;
 
 const STAGED: usize = 6181;
+
+// The bytes of a phy.
+const PHY_SIZE: usize = 105;

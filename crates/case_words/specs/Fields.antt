@@ -11,6 +11,11 @@ unfoldable pub words : List ℕ → List (List ℕ)
 words [] = []
 words (b ∷ l) = cond (eqb b 32) ([] ∷ words l) (joined_words b (words l))
 
+-- the pieces of some bytes, each ended by a c or by the end: `words` where c is a space
+abbrev pub pieces : ℕ → List ℕ → List (List ℕ)
+pieces c [] = []
+pieces c (b ∷ l) = cond (eqb b c) ([] ∷ pieces c l) (joined_words b (pieces c l))
+
 -- a decimal digit
 abbrev pub is_digit : ℕ → Bool
 is_digit c = leb 48 c && leb c 57

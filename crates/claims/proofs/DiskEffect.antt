@@ -20,7 +20,7 @@ use Rattle.disk.proofs.WaysLaws.{performed_by}
 use Rattle.disk.specs.Sector.{sector, reply_status, covers}
 use Rattle.disk.proofs.Laws.{writes, sector_after, disk_length, disk_read, sector_after_lem}
 use Rattle.adapter.specs.Adapter.{Adapter, medium_size, phy_in}
-use Rattle.select.specs.declared.Selection.{Selection}
+use Rattle.select.specs.Select.{Selection}
 use Rattle.select.specs.Select.{selection, select_by, lowest_of, phy_given, port_given, port_in}
 use Rattle.select.proofs.Laws.{selected_below}
 use Rattle.stp.specs.Body.{phy_asked, port_asked, connection_rate, destination_of}

@@ -17,7 +17,7 @@ use Rattle.phy.proofs.KeptLaws.{Kept, Settings}
 use Rattle.fields.specs.Rules.{fields_hold}
 use Rattle.adapter.specs.Adapter.{Adapter, phy_in, with_phy}
 use Rattle.link.specs.Rule.{negotiated_holds}
-use Rattle.select.specs.declared.Selection.{Selection}
+use Rattle.select.specs.Select.{Selection}
 use Rattle.select.specs.Select.{select_in}
 use Rattle.stp.specs.Body.{phy_asked, port_asked}
 use Rattle.state.specs.State.{adapter_holds}

@@ -3,7 +3,7 @@
 use Rattle.std.specs.Prelude.{◌≡◌, List, ℕ, ◌+◌, ◌≤◌, eqb, length}
 use Rattle.codes.specs.Codes.{short_buffer}
 use Rattle.level.specs.Text.{text_level}
-use Rattle.tally.specs.declared.Totals.{Totals}
+use Rattle.tally.specs.Totals.{Totals}
 use Rattle.tally.specs.Totals.{number_of, tally_of, Sums}
 use Rattle.header.specs.Sent.{Request}
 use Rattle.service.specs.Serve.{Store}

@@ -9,7 +9,7 @@ use Rattle.layout.specs.Layout.{phy_count}
 use Rattle.contents.specs.Contents.{file_phy}
 use Rattle.disk.specs.Disk.{lba}
 use Rattle.disk.specs.Sector.{sector, reply_status, covers}
-use Rattle.select.specs.declared.Selection.{Selection}
+use Rattle.select.specs.Select.{Selection}
 use Rattle.select.specs.Select.{select_by}
 use Rattle.stp.specs.Body.{phy_asked, port_asked, command, data_place}
 use Rattle.passthrough.specs.Passthrough.{disk_of}

@@ -1,6 +1,14 @@
 // The numbers of CSMI's section 10, each said once: control codes, link rates, device types, connection status, directions, return codes, and the reset of link errors with its place. The call's own numbers are document 01's.
 #![tactic(auto)]
 
+mod call_error;
+mod control_code;
+mod return_code;
+
+pub use call_error::{CallError, call_number};
+pub use control_code::{ControlCode, UnknownControlCode};
+pub use return_code::{ReturnCode, answer_code};
+
 // Control codes.
 pub const GET_DRIVER_INFO: u32 = 1;
 

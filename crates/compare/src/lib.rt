@@ -1,70 +1,53 @@
-// Bytes compared. Every contract is an equation with a definition of specs/.
+//! Bytes compared. Every contract is an equation with a definition of specs/.
 #![tactic(auto)]
 
 ghost use Rattle.std.specs.Prelude.{◌≡◌, ◌+◌, ◌≤◌, length};
 ghost use Rattle.laws.specs.Splice.{part};
 ghost use Rattle.compare.specs.Same.{same_bytes};
 
-use numbers::read32;
+use numbers::array;
 
-// The bytes of text stand in s from index at on.
-#[tactic(auto, using(crate::proofs::SameLaws::same_past, crate::proofs::SameLaws::same_short))]
+/// The bytes of `text` stand in `s` from index `at` on.
+#[tactic(auto, using(crate::proofs::SameLaws::same_front, crate::proofs::SameLaws::same_past))]
 pub fn same_at(s: &[u8], at: usize, text: &[u8]) -> bool
     ensures { result ≡ same_bytes (part s.now at (length text.now)) text.now }
 {
-    if s.len() < at {
-        return text.len() == 0;
+    match s.get(at..) {
+        Some(rest) => rest.starts_with(text),
+        None => text.is_empty(),
     }
-    if s.len() - at < text.len() {
-        return false;
-    }
-    same_from(s, at, text)
 }
 
-#[tactic(auto, using(crate::proofs::SameLaws::same_loop))]
-fn same_from(s: &[u8], at: usize, text: &[u8]) -> bool
-    requires { at + length text.now ≤ length s.now }
-    ensures { result ≡ same_bytes (part s.now at (length text.now)) text.now }
-{
-    let mut k = 0;
-    while k < text.len() {
-        if s[at + k] == text[k] {
-            k += 1;
-        } else {
-            return false;
-        }
-    }
-    true
-}
-
-// The two are the same bytes.
-#[tactic(auto, using(crate::proofs::SameLaws::same_whole, crate::proofs::SameLaws::same_longer))]
+/// The two are the same bytes.
+#[tactic(auto, using(crate::proofs::SameLaws::same_pointwise))]
 pub fn same(a: &[u8], b: &[u8]) -> bool
     ensures { result ≡ same_bytes a.now b.now }
 {
-    if a.len() == b.len() {
-        return same_from(a, 0, b);
-    }
-    false
+    a == b
 }
 
-// The four bytes of s and of t at two indices are the same.
-#[tactic(auto, using(crate::proofs::WordsLaws::words_same))]
+/// The `N` bytes of `s` and of `t` at two indices are the same.
+#[tactic(auto, using(crate::proofs::SameLaws::same_pointwise))]
+fn same_part<const N: usize>(s: &[u8], at: usize, t: &[u8], from: usize) -> bool
+    requires { (at + N ≤ length s.now) × (from + N ≤ length t.now) }
+    ensures { result ≡ same_bytes (part s.now at N) (part t.now from N) }
+{
+    // As arrays: `==` of the two slices takes 66 instructions for 16 bytes, this 25.
+    array::<N>(s, at) == array::<N>(t, from)
+}
+
+/// The four bytes of `s` and of `t` at two indices are the same.
 pub fn same4(s: &[u8], at: usize, t: &[u8], from: usize) -> bool
     requires { (at + 4 ≤ length s.now) × (from + 4 ≤ length t.now) }
     ensures { result ≡ same_bytes (part s.now at 4) (part t.now from 4) }
 {
-    read32(s, at) == read32(t, from)
+    same_part::<4>(s, at, t, from)
 }
 
-// The 16 bytes.
-#[tactic(auto, using(crate::proofs::WordsLaws::sixteen_same))]
+/// The 16 bytes.
 pub fn same16(s: &[u8], at: usize, t: &[u8], from: usize) -> bool
     requires { (at + 16 ≤ length s.now) × (from + 16 ≤ length t.now) }
     ensures { result ≡ same_bytes (part s.now at 16) (part t.now from 16) }
 {
-    same4(s, at, t, from)
-        & same4(s, at + 4, t, from + 4)
-        & same4(s, at + 8, t, from + 8)
-        & same4(s, at + 12, t, from + 12)
+    same_part::<16>(s, at, t, from)
 }

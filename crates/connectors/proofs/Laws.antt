@@ -1,25 +1,24 @@
 -- What the bytes say of the connectors: laws for the layers above, which open no definition of Connector.antt. Assumes nothing.
 use mathlib.Core.Path.{◌≡◌, refl, sym, ◌∙◌, ap}
-use mathlib.Core.Bool.{Bool, true, ◌&&◌}
+use mathlib.Core.Bool.{Bool, true}
 use mathlib.Core.List.{List, []}
-use Prim.Native.Nat.{ℕ, zero, suc, ◌+◌, ◌-◌, ◌*◌, ◌<◌, ◌≤◌}
-use native.Mathlib.Nat.{mul-suc, add-zero, zero-add}
+use Prim.Native.Nat.{ℕ, zero, suc, ◌+◌, ◌-◌, ◌*◌, ◌/◌, ◌<◌, ◌≤◌}
+use native.Mathlib.Nat.{mul-suc, zero-add}
 use native.Mathlib.Omega.{arith}
-use lib.Dec.{eqb, ltb}
-use lib.ListN.{length, get_or, replicate}
-use mir.Syntax.{w8}
-use mir.Val.{Fits}
+use lib.ListN.{length, take, get_or, replicate}
+use Rattle.std.specs.List.{list_all}
+use Rattle.std.specs.Simd.{first_chunks}
 use Rattle.laws.specs.All.{all_by}
 use Rattle.laws.specs.Clear.{zeros}
-use Rattle.laws.specs.Fill.{get_or_list_to, list_to_all}
+use Rattle.laws.specs.Fill.{list_to, length_list_to, get_or_list_to, list_to_all}
 use Rattle.laws.specs.Flat.{flat_to}
 use Rattle.laws.specs.Splice.{part, part_all, get_or_part, part_add, part_replicate}
 use Rattle.wire.specs.Same.{all_zero}
 use Rattle.wire.proofs.SameLaws.{same_refl}
 use Rattle.wire.proofs.ZeroLaws.{zero_run}
 use Rattle.connectors.specs.Pinout.{pinout_holds}
-use Rattle.connectors.specs.Connector.{connectors_size, connector_start, connector_of, connectors_of, zero_connector, connector_at, connectors_past}
-use Rattle.connectors.proofs.PinoutLaws.{pinout_bounds}
+use Rattle.connectors.specs.Connector.{connectors_size, connector_start, connector_of, connectors_of, zero_connector, connector_at, pinouts_hold, connectors_past}
+use Rattle.connectors.proofs.Chunks.{chunks_parts, all_first}
 
 -- connector n, and a byte of it
 pub connector_in : (b : List ℕ) (n : ℕ) → n < 32 → connector_at (connectors_of b) n ≡ part b (connector_start n) 36
@@ -29,14 +28,14 @@ connector_in b n h = get_or_list_to (connector_of b) 32 n [] h
 pub connector_byte : (b : List ℕ) (n i : ℕ) → n < 32 → i < 36 → get_or (connector_at (connectors_of b) n) i 0 ≡ get_or b (connector_start n + i) 0
 connector_byte b n i h k = ap (λ (c : List ℕ). get_or c i 0) (connector_in b n h) ∙ get_or_part b (connector_start n) 36 i 0 k
 
--- the pinout's rule, by the bytes
-pub pinout_by : (b : List ℕ) (n at : ℕ) → ((i : ℕ) → Fits w8 (get_or b i 0)) → n < 32 → at ≡ connector_start n
-    → ltb (get_or b at 0) 4 && ltb (get_or b (at + 1) 0) 16 && ltb (get_or b (at + 2) 0) 16 && eqb (get_or b (at + 3) 0) 0 ≡ pinout_holds (connector_at (connectors_of b) n)
-pinout_by b n at f h e =
-    let g : (i : ℕ) → i < 36 → get_or b (at + i) 0 ≡ get_or (connector_at (connectors_of b) n) i 0 = λ i l. rw e (sym (connector_byte b n i h l)) in
-    let z : get_or b at 0 ≡ get_or (connector_at (connectors_of b) n) 0 0 = rw add-zero at (g 0 (omega arith)) in
-    rw (z, g 1 (omega arith), g 2 (omega arith), g 3 (omega arith))
-    (pinout_bounds (connector_at (connectors_of b) n) (λ i l. rw (connector_byte b n i h (omega arith)) (f (connector_start n + i)).fits))
+-- the chunks of 36 bytes are the connectors, and the first p of them pass the pinout's rule
+pub pinouts_first : (b : List ℕ) (p : ℕ) → length b ≡ connectors_size → p ≤ 32
+    → list_all pinout_holds (take p (first_chunks 36 (length b / 36) b)) ≡ pinouts_hold (connectors_of b) p
+unfolding pinouts_hold connectors_of connector_of
+pinouts_first b p n h =
+    let k : length b / 36 ≡ 32 = rw n refl in
+    let e : first_chunks 36 (length b / 36) b ≡ list_to (λ (i : ℕ). part b (36 * i) 36) 32 = rw k (chunks_parts 36 32 b) in
+    rw e (all_first pinout_holds (list_to (λ (i : ℕ). part b (36 * i) 36) 32) [] p (rw length_list_to h))
 
 -- the connectors from p on, by one test of their bytes
 pub connectors_past_lem : (b : List ℕ) (p : ℕ) (r : Bool) → length b ≡ connectors_size → p ≤ 32 → r ≡ all_zero (part b (36 * p) (36 * (32 - p)))

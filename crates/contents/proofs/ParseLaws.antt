@@ -245,11 +245,3 @@ pub parsed : (t file : List ℕ) (p a : ℕ) (b c d x : List ℕ) → length t �
     → x ≡ rest_from d file p a → tables_of x ≡ adapter_of file p a
 unfolding rest_from
 parsed t file p a b c d x size k l m e f g q = rw (q, g, f, e) (tables_read t file p a size k l m)
-
--- a part of a file that was copied, by its place
-pub part_copied : (file d s : List ℕ) (at from place n : ℕ) → from ≡ place → s ≡ splice d at (part file from n) → s ≡ splice d at (part file place n)
-part_copied file d s at from place n e q = q ∙ rw e
-
--- a phy's bytes stand in its block
-pub phy_length : (file : List ℕ) (n : ℕ) → 512 * (1 + n) + 512 ≤ length file → length (part file (phy_place n) phy_size) ≡ phy_size
-phy_length file n h = length_part file (phy_place n) phy_size (omega arith)

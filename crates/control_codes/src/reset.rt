@@ -5,12 +5,13 @@ ghost use Rattle.control_codes.specs.Table.{link_errors_need};
 use level::Level;
 
 // By its reset byte.
-#[tactic(auto, using(laws::specs::Choice::picks), unfolding(crate::specs::Table::link_errors_need))]
+#[tactic(auto, unfolding(crate::specs::Table::link_errors_need))]
 pub fn link_errors_need(reset: u8) -> Level
     ensures { result ≡ link_errors_need reset }
 {
     if reset == codes::LINK_ERROR_RESET_COUNTS {
-        return Level::FULL;
+        Level::FULL
+    } else {
+        Level::RESTRICTED
     }
-    Level::RESTRICTED
 }

@@ -10,10 +10,9 @@ use borrow.Author.Tests.{eqb-true, ltb-true, ltb-false, leb-true, leb-false}
 use Rattle.laws.specs.Choice.{by_bool, either_by, both_left}
 use Rattle.laws.specs.Splice.{part, splice, length_part, length_splice, part_part, part_in, part_below, part_above, get_in, get_below}
 use Rattle.wire.specs.Number.{bytes}
-use Rattle.disk.specs.declared.Answer.{Answer}
 use Rattle.disk.specs.declared.AtaCommand.{AtaCommand}
 use Rattle.stp.specs.Body.{fis, command, data_length}
-use Rattle.disk.specs.Disk.{lba, count, ata_command, answer_of, byte_twelve, status_of, with_status, Performed, performed, Lent}
+use Rattle.disk.specs.Disk.{Answer, lba, count, ata_command, answer_of, byte_twelve, status_of, with_status, Performed, performed, Lent}
 use Rattle.disk.proofs.WaysLaws.{writing, performed_by}
 use Rattle.disk.specs.Sector.{covers, reply_status, sector}
 
@@ -29,7 +28,7 @@ sector_after code body reply s before =
 
 -- ---- the reply
 
-length_status : (body : List ℕ) (twelve : ℕ) (a : Answer) → length (status_of body twelve a) ≡ 92
+pub length_status : (body : List ℕ) (twelve : ℕ) (a : Answer) → length (status_of body twelve a) ≡ 92
 unfolding status_of bytes
 length_status body twelve a = refl
 

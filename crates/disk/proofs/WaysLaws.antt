@@ -10,17 +10,16 @@ use borrow.Author.Tests.{eqb-true, eqb-false, ltb-false}
 use Rattle.laws.specs.Choice.{either_by}
 use Rattle.laws.specs.Splice.{part, splice, length_part}
 use Rattle.wire.specs.Number.{bytes}
-use Rattle.disk.specs.declared.Answer.{Answer}
 use Rattle.disk.specs.declared.AtaCommand.{AtaCommand}
 use Rattle.stp.specs.Body.{data_length}
-use Rattle.disk.specs.Disk.{ata_command, succeeds, transfer, answer_of, answer_to, identify, sectors, with_status, Performed, performs, acted, performed, Lent}
+use Rattle.disk.specs.Disk.{Answer, ata_command, succeeds, transfer, answer_of, answer_to, identify, sectors, with_status, Performed, performs, acted, performed, Lent}
 use Rattle.disk.proofs.StoresLaws.{Succeeds, transferred, read_transfers, write_transfers, sectors_inside, sectors_room, identify_room}
 
 no_and : (t : Bool) → t && false ≡ false
 no_and true = refl
 no_and false = refl
 
-length_identify : length identify ≡ 512
+pub length_identify : length identify ≡ 512
 unfolding identify splice bytes
 length_identify = refl
 

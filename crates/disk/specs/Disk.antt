@@ -6,7 +6,6 @@ use Rattle.codes.specs.Codes.{success, invalid_parameter, open_accept}
 use Rattle.wire.specs.Number.{bytes}
 use Rattle.stp.specs.Body.{fis, command, data_length, status_place, data_place}
 use Rattle.disk.specs.declared.AtaCommand.{AtaCommand}
-use Rattle.disk.specs.declared.Answer.{Answer}
 
 -- ---- what the request asks
 
@@ -31,6 +30,12 @@ ata_command body =
     record { command = command body; addressed = addressed body; lba = lba body; count = count body; data_length = data_length body }
 
 -- ---- what the disk answers
+
+-- status, error, and how many bytes the command moves
+pub record Answer : Type 0 where
+  pub status : ℕ
+  pub error : ℕ
+  pub moved : ℕ
 
 -- "Success is 50h, 0", with the bytes that it moves
 abbrev pub succeeds : ℕ → Answer

@@ -1,3 +1,4 @@
 pub mod Disk
+pub mod Said
 pub mod Sector
 pub mod Starred

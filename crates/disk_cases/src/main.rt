@@ -5,184 +5,149 @@
 // uDataBytes; a digest of the body and one of the disk.
 #![tactic(auto)]
 
-ghost use Rattle.std.specs.Prelude.{◌≡◌, ◌+◌, ◌<◌, ◌≤◌, length};
-
 use std::io;
 use std::io::Write;
 
-fn number<W: Write>(out: &mut W, n: u32) -> io::Result<()> {
-    write!(out, "{n} ")
-}
+// The bytes of a request's body: the structure and 8,568 bytes of data.
+const BODY_SIZE: usize = 8704;
 
-fn byte<W: Write>(out: &mut W, b: u8) -> io::Result<()> {
-    write!(out, "{b:02x}")
-}
-
-fn bytes<W: Write>(out: &mut W, s: &[u8], at: usize, n: usize) -> io::Result<()>
-    requires { at + n ≤ length s.now }
-{
-    let mut i = 0;
-    while i < n {
-        byte(out, s[at + i])?;
-        i += 1;
+fn bytes<W: Write>(out: &mut W, s: &[u8]) -> io::Result<()> {
+    for b in s {
+        write!(out, "{b:02x}")?;
     }
     out.write_all(b" ")
 }
 
-fn mixed(d: u64, b: u8) -> u64
-    requires { d < 4294967291 }
-    ensures { result < 4294967291 }
-{
-    (d * 257 + b as u64) % 4294967291
-}
-
 // A number that tells apart runs of bytes that differ in one byte.
-fn digest(s: &[u8], at: usize, n: usize) -> u64
-    requires { at + n ≤ length s.now }
-{
+fn digest(s: &[u8]) -> u64 {
     let mut d = 0;
-    let mut i = 0;
-    while i < n {
-        d = mixed(d, s[at + i]);
-        i += 1;
+    for b in s {
+        d = (d % 4294967291 * 257 + u64::from(*b)) % 4294967291;
     }
     d
 }
 
-fn print_digest<W: Write>(out: &mut W, s: &[u8], at: usize, n: usize) -> io::Result<()>
-    requires { at + n ≤ length s.now }
-{
-    let d = digest(s, at, n);
-    write!(out, "{d:08x}")
-}
-
 // Byte i becomes i × (a + 2 × b + 3) + i / 256, modulo 256.
-fn pattern(s: &mut [u8], a: u8, b: u8)
-    requires { length s.old ≤ 8704 }
-{
-    let step = a as usize + 2 * b as usize + 3;
-    let mut v = 0;
-    let mut i = 0;
-    while i < s.len() {
-        s[i] = ((v + i / 256) % 256) as u8;
-        v = (v + step) % 256;
-        i += 1;
+fn pattern(s: &mut [u8], a: u8, b: u8) {
+    let step = b.wrapping_mul(2).wrapping_add(a).wrapping_add(3);
+    let mut v: u8 = 0;
+    for (i, byte) in s.iter_mut().enumerate() {
+        *byte = v.wrapping_add((i / 256 % 256) as u8);
+        v = v.wrapping_add(step);
     }
 }
 
-// Eight bytes of a row make a request: the command, FIS bytes 4 to 7, the count, and two of uDataLength.
-fn put(body: &mut [u8], row: &[u8], at: usize)
-    requires { (length body.old ≡ 8704) × (at + 8 ≤ length row.now) }
-{
-    pattern(body, row[at + 1], row[at + 5]);
-    wire::copy_part(body, 18, row, at, 1);
-    wire::copy_part(body, 20, row, at + 1, 4);
-    wire::copy_part(body, 28, row, at + 5, 1);
-    wire::write32(body, 40, wire::read16(row, at + 6) as u32);
+// Eight bytes make a request: the command, FIS bytes 4 to 7, the count, and two of uDataLength.
+fn put(body: &mut [u8; BODY_SIZE], row: &[u8; 8]) {
+    pattern(body, row[1], row[5]);
+    body[stp::COMMAND] = row[0];
+    body[stp::LBA_LOW..stp::LBA_LOW + 4].copy_from_slice(&row[1..5]);
+    body[stp::COUNT] = row[5];
+    let length = u32::from(u16::from_le_bytes([row[6], row[7]]));
+    body[stp::DATA_LENGTH..stp::DATA_LENGTH + 4].copy_from_slice(&length.to_le_bytes());
 }
 
-fn show_request<W: Write>(out: &mut W, body: &[u8]) -> io::Result<()>
-    requires { length body.now ≡ 8704 }
-{
-    bytes(out, body, 18, 1)?;
-    bytes(out, body, 20, 4)?;
-    bytes(out, body, 28, 1)?;
-    number(out, wire::read32(body, 40))
+fn show_request<W: Write>(out: &mut W, body: &[u8; BODY_SIZE]) -> io::Result<()> {
+    bytes(out, &body[stp::COMMAND..stp::COMMAND + 1])?;
+    bytes(out, &body[stp::LBA_LOW..stp::LBA_LOW + 4])?;
+    bytes(out, &body[stp::COUNT..stp::COUNT + 1])?;
+    let length = wire::read32(body, stp::DATA_LENGTH);
+    write!(out, "{length} ")
 }
 
-fn show_reply<W: Write>(out: &mut W, disk: &[u8], body: &[u8], code: u32) -> io::Result<()>
-    requires { (length disk.now ≡ 8192) × (length body.now ≡ 8704) }
-{
-    number(out, code)?;
-    bytes(out, body, 50, 2)?;
-    number(out, wire::read32(body, 132))?;
-    print_digest(out, body, 0, 8704)?;
-    out.write_all(b" ")?;
-    print_digest(out, disk, 0, 8192)?;
-    out.write_all(b"\n")
+fn show_reply<W: Write>(
+    out: &mut W,
+    disk: &[u8; disk::SIZE],
+    body: &[u8; BODY_SIZE],
+    code: u32,
+) -> io::Result<()> {
+    write!(out, "{code} ")?;
+    bytes(out, &body[50..52])?;
+    let moved = wire::read32(body, 132);
+    let body_digest = digest(body);
+    let disk_digest = digest(disk);
+    write!(out, "{moved} {body_digest:08x} {disk_digest:08x}\n")
 }
 
 // A request whose data lies in the body, as all do here.
-fn ask(disk: &mut [u8], body: &mut [u8]) -> u32
-    requires { (length disk.old ≡ 8192) × (length body.old ≡ 8704) }
-{
-    if wire::read32(body, 40) <= 8568 {
-        return disk_command::command(disk, body);
+fn ask(disk: &mut [u8; disk::SIZE], body: &mut [u8; BODY_SIZE]) -> u32 {
+    if wire::read32(body, stp::DATA_LENGTH) <= 8568 {
+        codes::answer_code(disk_command::command(disk, body))
+    } else {
+        999
     }
-    999
 }
 
 fn case<W: Write>(
     out: &mut W,
-    disk: &mut [u8],
-    body: &mut [u8],
-    row: &[u8],
-    at: usize,
-) -> io::Result<()>
-    requires { (length disk.old ≡ 8192) × (length body.old ≡ 8704) × (at + 8 ≤ length row.now) }
-{
-    put(body, row, at);
+    disk: &mut [u8; disk::SIZE],
+    body: &mut [u8; BODY_SIZE],
+    row: &[u8; 8],
+) -> io::Result<()> {
+    put(body, row);
     show_request(out, body)?;
     let code = ask(disk, body);
     show_reply(out, disk, body, code)
 }
 
-fn cases<W: Write>(out: &mut W, disk: &mut [u8], body: &mut [u8], rows: &[u8]) -> io::Result<()>
-    requires { (length disk.old ≡ 8192) × (length body.old ≡ 8704) }
-{
-    let mut k = 0;
-    while k < rows.len() / 8 {
-        case(out, disk, body, rows, 8 * k)?;
-        k += 1;
+fn cases<W: Write>(
+    out: &mut W,
+    disk: &mut [u8; disk::SIZE],
+    body: &mut [u8; BODY_SIZE],
+    rows: &[u8],
+) -> io::Result<()> {
+    let (rows, _) = rows.as_chunks::<8>();
+    for row in rows {
+        case(out, disk, body, row)?;
     }
     Ok(())
 }
 
-fn every_command<W: Write>(out: &mut W, disk: &mut [u8], body: &mut [u8]) -> io::Result<()>
-    requires { (length disk.old ≡ 8192) × (length body.old ≡ 8704) }
-{
+fn every_command<W: Write>(
+    out: &mut W,
+    disk: &mut [u8; disk::SIZE],
+    body: &mut [u8; BODY_SIZE],
+) -> io::Result<()> {
     out.write_all(b"every command\n")?;
-    let mut c: u32 = 0;
-    while c < 256 {
-        let row = [c as u8, 2, 0, 0, 0x40, 1, 0, 32];
-        case(out, disk, body, &row, 0)?;
-        c += 1;
+    for command in 0..=255u8 {
+        case(out, disk, body, &[command, 2, 0, 0, 0x40, 1, 0, 32])?;
     }
     Ok(())
 }
 
 // 20h and 30h, each LBA from 12 to 17, each count from 0 to 5.
-fn around_the_end<W: Write>(out: &mut W, disk: &mut [u8], body: &mut [u8]) -> io::Result<()>
-    requires { (length disk.old ≡ 8192) × (length body.old ≡ 8704) }
-{
+fn around_the_end<W: Write>(
+    out: &mut W,
+    disk: &mut [u8; disk::SIZE],
+    body: &mut [u8; BODY_SIZE],
+) -> io::Result<()> {
     out.write_all(b"around the end\n")?;
-    let mut k: u8 = 0;
-    while k < 72 {
-        let row = [0x20 + k % 2 * 16, 12 + k / 12, 0, 0, 0x40, k / 2 % 6, 0, 32];
-        case(out, disk, body, &row, 0)?;
-        k += 1;
+    for lba in 12..18u8 {
+        for count in 0..6u8 {
+            case(out, disk, body, &[0x20, lba, 0, 0, 0x40, count, 0, 32])?;
+            case(out, disk, body, &[0x30, lba, 0, 0, 0x40, count, 0, 32])?;
+        }
     }
     Ok(())
 }
 
 // The first eight bytes of each sector, and its digest.
-fn sectors<W: Write>(out: &mut W, disk: &[u8]) -> io::Result<()>
-    requires { length disk.now ≡ 8192 }
-{
+fn sectors<W: Write>(out: &mut W, disk: &[u8; disk::SIZE]) -> io::Result<()> {
     out.write_all(b"disk\n")?;
-    let mut s = 0;
-    while s < 16 {
-        bytes(out, disk, 512 * s, 8)?;
-        print_digest(out, disk, 512 * s, 512)?;
-        out.write_all(b"\n")?;
-        s += 1;
+    let (sectors, _) = disk.as_chunks::<{ disk::SECTOR_SIZE }>();
+    for sector in sectors {
+        bytes(out, &sector[..8])?;
+        let d = digest(sector);
+        write!(out, "{d:08x}\n")?;
     }
     Ok(())
 }
 
-fn high_bits<W: Write>(out: &mut W, disk: &mut [u8], body: &mut [u8]) -> io::Result<()>
-    requires { (length disk.old ≡ 8192) × (length body.old ≡ 8704) }
-{
+fn high_bits<W: Write>(
+    out: &mut W,
+    disk: &mut [u8; disk::SIZE],
+    body: &mut [u8; BODY_SIZE],
+) -> io::Result<()> {
     out.write_all(b"LBAs with high bits\n")?;
     cases(
         out,
@@ -210,9 +175,11 @@ fn high_bits<W: Write>(out: &mut W, disk: &mut [u8], body: &mut [u8]) -> io::Res
     )
 }
 
-fn bit_six_clear<W: Write>(out: &mut W, disk: &mut [u8], body: &mut [u8]) -> io::Result<()>
-    requires { (length disk.old ≡ 8192) × (length body.old ≡ 8704) }
-{
+fn bit_six_clear<W: Write>(
+    out: &mut W,
+    disk: &mut [u8; disk::SIZE],
+    body: &mut [u8; BODY_SIZE],
+) -> io::Result<()> {
     out.write_all(b"bit 6 clear\n")?;
     cases(
         out,
@@ -228,9 +195,11 @@ fn bit_six_clear<W: Write>(out: &mut W, disk: &mut [u8], body: &mut [u8]) -> io:
     )
 }
 
-fn data_length<W: Write>(out: &mut W, disk: &mut [u8], body: &mut [u8]) -> io::Result<()>
-    requires { (length disk.old ≡ 8192) × (length body.old ≡ 8704) }
-{
+fn data_length<W: Write>(
+    out: &mut W,
+    disk: &mut [u8; disk::SIZE],
+    body: &mut [u8; BODY_SIZE],
+) -> io::Result<()> {
     out.write_all(b"data length\n")?;
     cases(
         out,
@@ -258,9 +227,11 @@ fn data_length<W: Write>(out: &mut W, disk: &mut [u8], body: &mut [u8]) -> io::R
     )
 }
 
-fn no_data_length<W: Write>(out: &mut W, disk: &mut [u8], body: &mut [u8]) -> io::Result<()>
-    requires { (length disk.old ≡ 8192) × (length body.old ≡ 8704) }
-{
+fn no_data_length<W: Write>(
+    out: &mut W,
+    disk: &mut [u8; disk::SIZE],
+    body: &mut [u8; BODY_SIZE],
+) -> io::Result<()> {
     out.write_all(b"no data length\n")?;
     cases(
         out,
@@ -277,9 +248,11 @@ fn no_data_length<W: Write>(out: &mut W, disk: &mut [u8], body: &mut [u8]) -> io
     cases(out, disk, body, b"\x25\x05\x00\x00\x40\x01\x00\x00")
 }
 
-fn whole_disk<W: Write>(out: &mut W, disk: &mut [u8], body: &mut [u8]) -> io::Result<()>
-    requires { (length disk.old ≡ 8192) × (length body.old ≡ 8704) }
-{
+fn whole_disk<W: Write>(
+    out: &mut W,
+    disk: &mut [u8; disk::SIZE],
+    body: &mut [u8; BODY_SIZE],
+) -> io::Result<()> {
     out.write_all(b"the whole disk\n")?;
     cases(
         out,
@@ -297,8 +270,8 @@ fn whole_disk<W: Write>(out: &mut W, disk: &mut [u8], body: &mut [u8]) -> io::Re
 
 fn main(rt: HostRuntime) -> io::Result<()> {
     let mut out = rt.stdout();
-    let mut disk = [0u8; 8192];
-    let mut body = [0u8; 8704];
+    let mut disk = [0u8; disk::SIZE];
+    let mut body = [0u8; BODY_SIZE];
     pattern(&mut disk, 4, 0);
     sectors(&mut out, &disk)?;
     every_command(&mut out, &mut disk, &mut body)?;

@@ -1,55 +1,45 @@
 // What a reply holds: the Status structure, and the data of ECh.
-ghost use Rattle.std.specs.Prelude.{◌≡◌, ◌+◌, ◌≤◌, length};
-ghost use Rattle.laws.specs.Splice.{splice};
-ghost use Rattle.stp.specs.Body.{data_place};
+ghost use Rattle.std.specs.Prelude.{◌≡◌, ◌≤◌, length};
+ghost use Rattle.stp.specs.Body.{fis, data_place};
 ghost use Rattle.disk.specs.Disk.{byte_twelve, status_of, with_status, identify};
+ghost use Rattle.disk.specs.Said.{answer_said};
 
-use disk::{Answer, AtaCommand};
+use disk::{AtaCommand, AtaError, CHECK_POWER_MODE, SECTOR_SIZE};
 
-// Byte 12 of the status FIS: E5h reports the disk active there, and another command its count.
-#[tactic(auto, using(laws::specs::Choice::picks), unfolding(disk::specs::Disk::byte_twelve))]
-fn byte_twelve(command: u8, byte: u8) -> u8
-    ensures { result ≡ byte_twelve command byte }
-{
-    if command == 0xe5 {
-        return 0xff;
-    }
-    byte
-}
-
-// The status FIS is at 4, uDataBytes at 88; every other byte is 0.
-#[tactic(auto, using(disk::proofs::StoresLaws::status_built))]
-fn status(body: &[u8], twelve: u8, a: Answer) -> [u8; 92]
-    requires { data_place ≤ length body.now }
-    ensures { result ≡ status_of body.now twelve a }
-{
-    let mut s = [0u8; 92];
-    s[4] = 0x34;
-    s[6] = a.status;
-    s[7] = a.error;
-    wire::copy_part(&mut s, 8, body, stp::LBA_LOW, 10);
-    s[16] = twelve;
-    wire::write32(&mut s, 88, a.moved);
-    s
-}
-
-#[tactic(auto, using(crate::proofs::MadeLaws::status_by))]
-pub fn put_status(body: &mut [u8], r: AtaCommand, a: Answer)
+// Fills in Status: the status FIS at 4, uDataBytes at 88, and 0 in every other byte. The status FIS,
+// of type 34h, has status and error, and bytes 4 to 13 of the command FIS; in byte 12 of these E5h
+// reports the disk active.
+pub fn put_status(body: &mut [u8], asked: AtaCommand, answer: Result<u32, AtaError>)
     requires { data_place ≤ length body.old }
-    ensures { body.new ≡ with_status body.old r a }
+    ensures { body.new ≡ with_status body.old asked (answer_said answer) }
 {
-    let s = status(body, byte_twelve(r.command, body[stp::COUNT]), a);
-    wire::copy_at(body, stp::STATUS, &s);
+    let (status, error, moved) = match answer {
+        Ok(moved) => (0x50, 0, moved),
+        Err(error) => (0x51, u8::from(error), 0),
+    };
+    let twelve = if asked.command == CHECK_POWER_MODE {
+        0xff
+    } else {
+        body[stp::COUNT]
+    };
+    let (fixed, rest) = body.split_at_mut(stp::STATUS);
+    let (out, _) = rest.split_at_mut(92);
+    out.fill(0);
+    out[4] = 0x34;
+    out[6] = status;
+    out[7] = error;
+    out[8..18].copy_from_slice(&fixed[stp::LBA_LOW..stp::LBA_LOW + 10]);
+    out[16] = twelve;
+    out[88..92].copy_from_slice(&moved.to_le_bytes());
 }
 
 // Words 49 (LBA supported) and 60 (sectors) of 256.
-#[tactic(auto, using(crate::proofs::MadeLaws::identify_by))]
-pub fn put_identify(body: &mut [u8])
-    requires { data_place + 512 ≤ length body.old }
-    ensures { body.new ≡ splice body.old data_place identify }
+#[tactic(auto, unfolding(disk::specs::Disk::identify, laws::specs::Splice::splice, wire::specs::Number::bytes))]
+pub fn identify() -> [u8; SECTOR_SIZE]
+    ensures { result ≡ identify }
 {
-    let mut words = [0u8; 512];
-    wire::write16(&mut words, 98, 0x0200);
-    wire::write16(&mut words, 120, 16);
-    wire::copy_at(body, stp::DATA, &words);
+    let mut words = [0; SECTOR_SIZE];
+    words[98..100].copy_from_slice(&0x0200u16.to_le_bytes());
+    words[120..122].copy_from_slice(&16u16.to_le_bytes());
+    words
 }

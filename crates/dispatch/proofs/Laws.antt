@@ -6,15 +6,21 @@ use Prim.Native.Nat.{ℕ, ◌+◌, ◌-◌, ◌<◌, ◌≤◌}
 use native.Mathlib.Omega.{arith}
 use lib.Dec.{eqb, ltb}
 use lib.ListN.{length, get_or, take, drop}
-use borrow.Author.Tests.{eqb-true, ltb-false, lt-ltb, le-ltb}
+use lib.Seq.{drop-length}
+use borrow.Author.Tests.{eqb-true, ltb-false, lt-ltb, le-ltb, ne_eqb}
+use Rattle.std.proofs.Math.Seq.{take_all}
 use Rattle.laws.specs.Choice.{came_then, came_else, both_zero}
-use Rattle.laws.specs.Splice.{splice, rest, rest_end}
+use Rattle.laws.specs.Splice.{part, splice, rest, rest_end}
 use Rattle.codes.specs.Codes.{short_buffer, bad_state}
+use Rattle.codes.specs.declared.call_error.CallError.{CallError}
+use Rattle.std.proofs.Common.{Result, Err}
+use Rattle.codes.specs.Numbers.{error_number, call_of}
+use Rattle.codes.proofs.NumbersLaws.{error_some}
 use mir.Syntax.{w32}
 use mir.Val.{Fits}
 use Rattle.wire.specs.Number.{bytes}
 use Rattle.level.specs.declared.Level.{Level}
-use Rattle.tables.specs.Tables.{tables_of}
+use Rattle.tables.specs.Tables.{tables_size, tables_of}
 use Rattle.header.specs.declared.Kind.{Kind}
 use Rattle.header.specs.Form.{Form, return_code, with_code}
 use Rattle.control_codes.specs.Table.{structure_size, data_size}
@@ -22,10 +28,10 @@ use Rattle.header.specs.Sent.{sent, form_by, control_by, HasStructure, checks_co
 use Rattle.header.proofs.FormLaws.{code_shown}
 use Rattle.header.proofs.SentLaws.{form_room, checks_room}
 use Rattle.state.specs.State.{State, state_with, state_size, state_of, state_holds}
-use Rattle.state.proofs.Laws.{lent_tables, state_back, state_phys, state_rows}
+use Rattle.state.proofs.Laws.{tables_behind, state_back, state_phys, state_rows}
 use Rattle.adapter.specs.Adapter.{Adapter, medium_size}
 use Rattle.firmware.specs.Firmware.{stage_size}
-use Rattle.service.specs.Serve.{Store, serves, served}
+use Rattle.service.specs.Serve.{Store, store_of, serves, served}
 use Rattle.dispatch.specs.Request.{Point, point, outcome, stage_number, state_number, buffer_number, untouched, pending, in_buffer, served_request, refused_request, answered, replied, answered_at, handled, RequestCall}
 
 -- ---- the body, lent as the rest of the buffer
@@ -133,25 +139,47 @@ module _ (kind : Kind) where
     code_written code buffer reply f h q =
         sym (ap (return_code (form_by kind)) (code_placed code buffer reply q) ∙ code_shown (form_by kind) (form_room (sent kind [])) buffer code h f.fits)
 
+-- ---- bytes lent as an array, which are all of them
+
+all_lent : (n : ℕ) (l t : List ℕ) → length l ≡ n → t ≡ take n l → t ≡ l
+all_lent n l t e p = p ∙ take_all n l (omega arith)
+
+none_left : (n : ℕ) (l : List ℕ) → length l ≡ n → drop n l ≡ []
+none_left n l e = ap (λ (k : ℕ). drop k l) (sym e) ∙ drop-length l
+
 -- ---- the tables lent from the state, and given back
 
-pub lent_phys : (s : List ℕ) → state_holds (state_of s) ≡ true → (tables_of (take (length s - 1) (drop 1 s))).phy_count ≤ 32
-lent_phys s h = rw (lent_tables s) (state_phys (state_of s) true (sym h) refl)
+module _ (s f b t : List ℕ) (e : length s ≡ state_size) (p : f ≡ take 1 s) (q : b ≡ drop 1 s) (u : t ≡ take tables_size b) where
+  lent_adapter : tables_of t ≡ (state_of s).adapter
+  unfolding part
+  lent_adapter = tables_behind s t e (u ∙ ap (take tables_size) q)
 
-pub lent_rows : (s : List ℕ) → state_holds (state_of s) ≡ true → (tables_of (take (length s - 1) (drop 1 s))).row_count ≤ 64
-lent_rows s h = rw (lent_tables s) (state_rows (state_of s) true (sym h) refl)
+  pub lent_few : state_holds (state_of s) ≡ true → ((tables_of t).phy_count ≤ 32) × ((tables_of t).row_count ≤ 64)
+  lent_few h = rw lent_adapter (state_phys (state_of s) true (sym h) refl, state_rows (state_of s) true (sym h) refl)
 
-pub lent_medium : (s : List ℕ) (medium : ℕ) → medium ≡ medium_size (state_of s).adapter → medium ≡ medium_size (tables_of (take (length s - 1) (drop 1 s)))
-lent_medium s medium e = rw (lent_tables s) e
+  pub lent_medium : (medium : ℕ) → medium ≡ medium_size (state_of s).adapter → medium ≡ medium_size (tables_of t)
+  lent_medium medium h = rw lent_adapter h
 
-pub reply_back : (kind : Kind) (s t : List ℕ) (store store' : Store) (buffer buffer' : List ℕ) → length s ≡ state_size
-    → outcome 0 (point (state_with (record { 0 = get_or s 0 0 }) (tables_of t)) store') buffer'
-    ≡ answered_at (point (state_with (record { 0 = get_or s 0 0 }) (tables_of (take (length s - 1) (drop 1 s)))) store) (sent kind buffer)
-    → outcome 0 (point (state_of (take 1 s ++ (t ++ drop (length s - 1) (drop 1 s)))) store') buffer' ≡ answered_at (point (state_of s) store) (sent kind buffer)
-unfolding state_of
-reply_back kind s t store store' buffer buffer' e p = rw (state_back s t e) (rw (rest s 1) at p)
+  pub reply_back : (kind : Kind) (t' m m' g h h' buffer buffer' : List ℕ) → length g ≡ stage_size → h ≡ take stage_size g
+      → outcome 0 (point (state_with (record { 0 = get_or s 0 0 }) (tables_of t')) (store_of m' h')) buffer'
+      ≡ answered_at (point (state_with (record { 0 = get_or s 0 0 }) (tables_of t)) (store_of m h)) (sent kind buffer)
+      → outcome 0 (point (state_of (f ++ (t' ++ drop tables_size b))) (store_of m' (h' ++ drop stage_size g))) buffer'
+      ≡ answered_at (point (state_of s) (store_of m g)) (sent kind buffer)
+  unfolding state_of
+  reply_back kind t' m m' g h h' buffer buffer' l k x =
+      let back : state_of (f ++ (t' ++ drop tables_size b)) ≡ state_with (state_of s).level (tables_of t') = rw (p, q) (rw e at (state_back s t' e)) in
+      rw (back, none_left stage_size g l, append-nil) (rw (lent_adapter, all_lent stage_size g h l k) at x)
 
 -- ---- the call
+
+-- the error of a call that gave one
+pub error_told : {A : Type 0} (r : Result A CallError) (error : CallError) (n : ℕ) → r ≡ Err error → call_of r ≡ n → error_number error ≡ n
+error_told r error n p q = sym (ap call_of p) ∙ q
+
+-- its number is that of a check before the buffer's
+pub number_first : (f : Form) (number buffer : ℕ) (error : CallError) → error_number error ≡ number → error_number error ≡ buffer_number f number buffer
+unfolding buffer_number
+number_first f number buffer error h = rw (← h, ne_eqb (error_number error) 0 (error_some error)) refl
 
 -- its number is another one than 0
 pub untouched_by : (kind : Kind) (call n : ℕ) (p : Point) (buffer : List ℕ) → call ≡ n → outcome call p buffer ≡ untouched n p (sent kind buffer)
@@ -181,3 +209,11 @@ module _ (kind : Kind) (state : List ℕ) (store : Store) (buffer : List ℕ) wh
         other_store = λ _. refl;
         other_buffer = λ _. refl;
       }
+
+  -- where the state is lent as an array
+  pub request_lent : (call : ℕ) (t t' : List ℕ) (store' : Store) (buffer' : List ℕ) → length state ≡ state_size → length t' ≡ state_size → t ≡ take state_size state
+      → outcome call (point (state_of t') store') buffer' ≡ handled (point (state_of t) store) (sent kind buffer)
+      → RequestCall kind state store buffer call (t' ++ drop state_size state) store' buffer'
+  request_lent call t t' store' buffer' e l u p =
+      rw (none_left state_size state e, append-nil)
+      (request_whole call t' store' buffer' e (l ∙ sym e) (rw (all_lent state_size state t e u) at p))

@@ -19,7 +19,8 @@ use session::open_and_run;
 pub extern "C" fn ascheknopf_open(text: &[u8], file: &[u8], medium: &[u8], state: &mut [u8]) -> u32
     ensures { OpenCall text.now file.now medium.now state.old result state.new }
 {
-    dispatch::open(text, file, medium, state)
+    let call = dispatch::open(text, file, medium, state);
+    codes::call_number(call)
 }
 
 // Handles one request under the first header, in place.
@@ -33,7 +34,8 @@ pub extern "C" fn ascheknopf_request(
     ensures { RequestCall Srb state.old (store_of medium.old stage.old) buffer.old result
         state.new (store_of medium.new stage.new) buffer.new }
 {
-    dispatch::request(state, medium, stage, buffer)
+    let call = dispatch::request(state, medium, stage, buffer);
+    codes::call_number(call)
 }
 
 // Handles one request under the Linux header, in place. Its control code is handed in beside the buffer.
@@ -48,7 +50,8 @@ pub extern "C" fn ascheknopf_request_linux(
     ensures { RequestCall (Linux control) state.old (store_of medium.old stage.old) buffer.old result
         state.new (store_of medium.new stage.new) buffer.new }
 {
-    dispatch::request_linux(state, medium, stage, control, buffer)
+    let call = dispatch::request_linux(state, medium, stage, control, buffer);
+    codes::call_number(call)
 }
 
 // Opens the adapter and handles the requests of a session in order, until one is cut short or the record is full: the replies stand in the
@@ -94,5 +97,6 @@ pub extern "C" fn ascheknopf_run_both(
 pub extern "C" fn ascheknopf_tally(lines: &[u8], totals: &mut [u8]) -> u32
     ensures { wrote result totals.new ≡ tallied lines.now totals.old }
 {
-    tally_record::write_tally(lines, totals)
+    let call = tally_record::write_tally(lines, totals);
+    codes::call_number(call)
 }

@@ -1,3 +1,4 @@
 -- The laws that the proofs of this crate and of the crates above cite.
 pub mod RulesLaws
 pub mod HoldLaws
+pub mod RangeLaws

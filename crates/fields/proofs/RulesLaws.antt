@@ -1,41 +1,28 @@
 -- What is proved of the definitions in specs/Rules.antt. Assumes nothing.
 use mathlib.Core.Path.{◌≡◌, refl, sym, ◌∙◌, ap}
-use mathlib.Core.Bool.{Bool, true, false, cond, ◌&&◌, ◌||◌, and_assoc}
-use mathlib.Core.List.{List, map}
+use mathlib.Core.Bool.{Bool, true, false, ◌&&◌, ◌||◌}
+use mathlib.Core.List.{List}
 use Prim.Native.Nat.{ℕ, ◌%◌, ◌<◌, ◌≤◌}
 use native.Mathlib.Omega.{arith}
 use lib.Dec.{eqb, leb}
 use lib.ListN.{length}
-use borrow.Author.Rules.{length_unmapped}
-use borrow.Author.Tests.{eqb-true, eqb-false, eq-eqb, ne_eqb, leb-true, le-leb, lt-leb}
+use borrow.Author.Tests.{eqb-true, eqb-false, eq-eqb, leb-true, le-leb}
 use Rattle.laws.specs.All.{all_to}
 use Rattle.laws.specs.Choice.{and_true, and_false, both_left, both_right, by_bool}
 use Rattle.laws.specs.Splice.{part, part_all}
 use Rattle.wire.specs.Number.{number}
 use Rattle.wire.specs.Same.{same_bytes, all_zero}
 use Rattle.phy.specs.declared.Phy.{Phy}
-use Rattle.phy.specs.declared.PhyIdentifier.{PhyIdentifier}
 use Rattle.phy.specs.Block.{counters_at, phy_of, zero_phy}
 use Rattle.codes.specs.Codes.{end_device}
-use Rattle.phy.specs.Entity.{byte_of, attached_place, protocols_place, attached_of, attached_type, no_device, is_sata}
-use Rattle.fields.specs.Rules.{is_rate, in_range, range_holds, identify_holds, rates_hold, empty_holds, device_holds, attached_hold, held_signature_holds, spinup_allowed, fields_hold, phy_zero}
+use Rattle.phy.specs.Entity.{byte_of, protocols_place, attached_of, attached_type, no_device, is_sata}
+use Rattle.fields.specs.Rules.{is_rate, in_range, range_holds, empty_holds, device_holds, attached_hold, held_signature_holds, phy_zero}
 
 -- ---- what the code finds
 
 -- what a look through all n bytes of a field tells
-pub zero_all : (s : List ℕ) (n : ℕ) (r : Bool) → length (map (λ (v : ℕ). v) s) ≡ n → r ≡ all_zero (part s 0 n) → r ≡ all_zero s
-zero_all s n r h e = e ∙ ap all_zero (ap (part s 0) (sym (length_unmapped ℕ s n h)) ∙ part_all s)
-
--- tests of two rates, and of two fields, that others made
-pub in_range_by : (least minimum maximum most : ℕ) (a b : Bool) → a ≡ is_rate minimum → b ≡ is_rate maximum
-    → a && b && leb least minimum && leb minimum maximum && leb maximum most ≡ in_range least minimum maximum most
-unfolding in_range
-in_range_by least minimum maximum most a b p q = rw (p, q)
-
-pub empty_by : (phy : Phy) (a b : Bool) → a ≡ all_zero (part phy.entity attached_place 28) → b ≡ all_zero phy.signature
-    → a && b && eqb phy.held 0 && eqb phy.lowest 0 && eqb phy.highest 0 ≡ empty_holds phy
-unfolding empty_holds attached_of
-empty_by phy a b p q = rw (p, q)
+pub zero_all : (s : List ℕ) (n : ℕ) (r : Bool) → length s ≡ n → r ≡ all_zero (part s 0 n) → r ≡ all_zero s
+zero_all s n r h e = e ∙ ap all_zero (ap (part s 0) (sym h) ∙ part_all s)
 
 -- the phy of a block of zeros is all zero
 pub zero_phy_lem : phy_zero zero_phy ≡ true
@@ -121,35 +108,9 @@ behind : (s a b c : Bool) → s && (a && b && c) ≡ s && a && b && c
 behind true a b c = refl
 behind false a b c = refl
 
-pub rates_behind : (s r : Bool) (l h : ℕ) → r ≡ is_rate l && is_rate h && leb l h → s && r ≡ s && is_rate l && is_rate h && leb l h
-rates_behind s r l h e = rw e (behind s (is_rate l) (is_rate h) (leb l h))
-
 -- ---- one group of rules behind the other
 
 module _ (phy : Phy) where
-  -- whether a signature is held, and what that asks
-  pub signature_held : (r : Bool) → phy.held ≡ 1 → r ≡ is_sata phy → r ≡ leb phy.held 1 && held_signature_holds phy
-  unfolding held_signature_holds
-  signature_held r e q = rw (eq-eqb phy.held 1 e, le-leb phy.held 1 (omega arith)) q
-
-  pub signature_none : (r : Bool) → (phy.held ≡ 1 → ⊥) → r ≡ all_zero phy.signature → eqb phy.held 0 && r ≡ leb phy.held 1 && held_signature_holds phy
-  unfolding held_signature_holds
-  signature_none r d q =
-      by_bool (λ (t : Bool). eqb phy.held 0 ≡ t → t && r ≡ leb phy.held 1 && cond (eqb phy.held 1) (is_sata phy) (all_zero phy.signature))
-      (λ p. rw (eqb-true phy.held 0 p) q)
-      (λ p. let k : (phy.held ≡ 0 → ⊥) = eqb-false phy.held 0 p in
-      rw (lt-leb phy.held 1 (omega arith)) refl)
-      (eqb phy.held 0) refl
-
-  -- whether the device is held at spin_up
-  pub spinup_none : phy.spinup_hold ≡ 0 → true ≡ spinup_allowed phy
-  unfolding spinup_allowed
-  spinup_none e = rw e refl
-
-  pub spinup_some : (r : Bool) → (phy.spinup_hold ≡ 0 → ⊥) → r ≡ is_sata phy → eqb phy.spinup_hold 1 && r ≡ spinup_allowed phy
-  unfolding spinup_allowed
-  spinup_some r d q = rw (ne_eqb phy.spinup_hold 0 d, q) refl
-
   -- where nothing is attached the rest follows, but for bytes 101 and 104
   empty_rest : empty_holds phy && leb phy.held 1 && held_signature_holds phy ≡ empty_holds phy
   unfolding empty_holds held_signature_holds
@@ -159,15 +120,10 @@ module _ (phy : Phy) where
       (λ h. let t = five_hold (all_zero (attached_of phy)) (all_zero phy.signature) (eqb phy.held 0) (eqb phy.lowest 0) (eqb phy.highest 0) h in
       rw (h, eqb-true phy.held 0 t.2, t.1) refl)
 
-  -- nothing attached, and a device attached
+  -- nothing attached
   pub nothing_attached : (r : Bool) → no_device phy ≡ true → r ≡ empty_holds phy → r ≡ attached_hold phy && leb phy.held 1 && held_signature_holds phy
   unfolding attached_hold
   nothing_attached r e q = q ∙ rw e (sym empty_rest)
-
-  pub device_attached : (r : Bool) → no_device phy ≡ false → r ≡ device_holds phy && (leb phy.held 1 && held_signature_holds phy)
-      → r ≡ attached_hold phy && leb phy.held 1 && held_signature_holds phy
-  unfolding attached_hold
-  device_attached r e q = q ∙ rw e (sym (and_assoc (device_holds phy) (leb phy.held 1) (held_signature_holds phy)))
 
   -- a signature held: a SATA device is one, and of a device its rates are left
   sata_rest : attached_hold phy && is_sata phy ≡ is_sata phy && is_rate phy.lowest && is_rate phy.highest && leb phy.lowest phy.highest
@@ -179,14 +135,16 @@ module _ (phy : Phy) where
       rw (e, and_true) refl)
       (λ _. rw and_false refl) (is_sata phy) refl
 
+  pub signed : (r : Bool) → phy.held ≡ 1 → is_sata phy ≡ true → r ≡ is_rate phy.lowest && is_rate phy.highest && leb phy.lowest phy.highest
+      → r ≡ attached_hold phy && leb phy.held 1 && held_signature_holds phy
+  unfolding held_signature_holds
+  signed r h e q =
+      let t : attached_hold phy && true ≡ is_rate phy.lowest && is_rate phy.highest && leb phy.lowest phy.highest = rw e at sata_rest in
+      q ∙ sym t ∙ rw (e, le-leb phy.held 1 (omega arith), eq-eqb phy.held 1 h, and_true (attached_hold phy && true)) refl
+
   pub sata_rates : (x r : Bool) → x ≡ is_sata phy → r ≡ is_rate phy.lowest && is_rate phy.highest && leb phy.lowest phy.highest
       → x && r ≡ is_sata phy && is_rate phy.lowest && is_rate phy.highest && leb phy.lowest phy.highest
-  sata_rates x r e q = rw e (rates_behind (is_sata phy) r phy.lowest phy.highest q)
-
-  pub signed : (r : Bool) → leb phy.fixed 1 ≡ true → phy.held ≡ 1 → r ≡ is_sata phy && is_rate phy.lowest && is_rate phy.highest && leb phy.lowest phy.highest
-      → r ≡ attached_hold phy && leb phy.held 1 && leb phy.fixed 1 && held_signature_holds phy
-  unfolding held_signature_holds
-  signed r e h q = q ∙ sym sata_rest ∙ rw (e, le-leb phy.held 1 (omega arith), eq-eqb phy.held 1 h, and_true, and_true) refl
+  sata_rates x r e q = rw (e, q) (behind (is_sata phy) (is_rate phy.lowest) (is_rate phy.highest) (leb phy.lowest phy.highest))
 
   -- byte 101
   pub fixed_failed : leb phy.fixed 1 ≡ false → false ≡ attached_hold phy && leb phy.held 1 && leb phy.fixed 1 && held_signature_holds phy
@@ -195,20 +153,6 @@ module _ (phy : Phy) where
   pub fixed_passed : (r : Bool) → leb phy.fixed 1 ≡ true → r ≡ attached_hold phy && leb phy.held 1 && held_signature_holds phy
       → r ≡ attached_hold phy && leb phy.held 1 && leb phy.fixed 1 && held_signature_holds phy
   fixed_passed r e q = q ∙ rw (e, and_true) refl
-
-module _ (phy : Phy) (n : PhyIdentifier) (p : ℕ) where
-  pub identify_failed : identify_holds phy n p ≡ false → false ≡ fields_hold phy n p
-  unfolding fields_hold
-  identify_failed e = rw e refl
-
-  pub rates_failed : identify_holds phy n p ≡ true → rates_hold phy ≡ false → false ≡ fields_hold phy n p
-  unfolding fields_hold
-  rates_failed e f = rw (e, f) refl
-
-  pub rates_passed : (r : Bool) → identify_holds phy n p ≡ true → rates_hold phy ≡ true
-      → r ≡ attached_hold phy && leb phy.held 1 && leb phy.fixed 1 && held_signature_holds phy && spinup_allowed phy → r ≡ fields_hold phy n p
-  unfolding fields_hold
-  rates_passed r e f q = rw (e, f) q
 
 -- ---- rates that passed fit the programmed half of a byte
 

@@ -1,6 +1,6 @@
 -- A file whose file part gives 0 (the negotiated rates and the rows are judged after it): what was read passes the rules on
 -- counts and fields, and is zero past p and a. Laws for the layers above. Assumes nothing.
-use mathlib.Core.Path.{◌≡◌, refl, ◌∙◌, ap}
+use mathlib.Core.Path.{◌≡◌, ◌∙◌, ap}
 use mathlib.Core.Bool.{true, ◌&&◌}
 use mathlib.Core.List.{List, []}
 use Prim.Native.Nat.{ℕ, ◌+◌, ◌-◌, ◌<◌, ◌≤◌}
@@ -23,9 +23,9 @@ use Rattle.layout.specs.Layout.{phy_count, row_count, blocks, file_length}
 use Rattle.unnamed.specs.Unnamed.{unnamed_zero}
 use Rattle.adapter.specs.Adapter.{phy_in, counts_hold, fields_all, zero_past}
 use Rattle.contents.specs.Contents.{file_phy, file_row, file_connector, adapter_of}
-use Rattle.file.specs.File.{FileRead, file_read}
-use Rattle.file.specs.Steps.{fields_read, blocks_read, length_read, counts_read, first_read}
-use Rattle.file.proofs.StepsLaws.{first_call, first_adapter}
+use Rattle.file.specs.File.{file_read}
+use Rattle.file.specs.Steps.{sized_then, fields_number}
+use Rattle.file.proofs.StepsLaws.{passed_number, passed_adapter}
 
 -- what is known of a file that passed
 pub record Accepted (file : List ℕ) : Type 0 where
@@ -34,22 +34,23 @@ pub record Accepted (file : List ℕ) : Type 0 where
   pub size : file_length (phy_count file) (row_count file) ≡ length file
   pub fields : fields_all (adapter_of file (phy_count file) (row_count file)) ≡ true
 
-Fine : FileRead → Type 0
-Fine r = r.call ≡ 0
+Zero : ℕ → Type 0
+Zero n = n ≡ 0
 
 pub accepted : (file : List ℕ) → (file_read file).call ≡ 0 → Accepted file
-unfolding first_read counts_read length_read blocks_read fields_read Fine
+unfolding sized_then fields_number Zero
 accepted file h =
     let p : ℕ = phy_count file in
     let a : ℕ = row_count file in
-    let long = came_then Fine (leb 512 (length file)) (λ e. omega arith) (first_call file h) in
-    let first = came_then Fine (sound (block_at file 0) 0) (λ e. omega arith) long.1 in
-    let counts = came_then Fine (counts_hold p a) (λ e. omega arith) first.1 in
-    let size = came_then Fine (eqb (file_length p a) (length file)) (λ e. omega arith) counts.1 in
-    let blocks = came_then Fine (sound_to file (blocks p a)) (λ e. omega arith) size.1 in
-    let rules = came_then Fine (unnamed_zero file p a && fields_all (adapter_of file p a)) (λ e. omega arith) blocks.1 in
+    let number = passed_number file h in
+    let long = came_then Zero (leb 512 (length file)) (λ e. omega arith) number in
+    let first = came_then Zero (sound (block_at file 0) 0) (λ e. omega arith) long.1 in
+    let counts = came_then Zero (counts_hold p a) (λ e. omega arith) first.1 in
+    let size = came_then Zero (eqb (file_length p a) (length file)) (λ e. omega arith) counts.1 in
+    let blocks = came_then Zero (sound_to file (blocks p a)) (λ e. omega arith) size.1 in
+    let rules = came_then Zero (unnamed_zero file p a && fields_all (adapter_of file p a)) (λ e. omega arith) blocks.1 in
     record {
-      read = first_adapter file ∙ rw (long.0, first.0, counts.0, size.0, blocks.0, rules.0) refl;
+      read = passed_adapter file number;
       counts = counts.0;
       size = eqb-true (file_length p a) (length file) size.0;
       fields = both_right (unnamed_zero file p a) (fields_all (adapter_of file p a)) rules.0;

@@ -2,19 +2,17 @@
 use mathlib.Core.Path.{◌≡◌, ◌∙◌, ap}
 use mathlib.Core.List.{List}
 use Prim.Native.Nat.{ℕ, ◌≤◌}
-use lib.ListN.{length}
-use Rattle.laws.specs.Clear.{zeros, cleared_all}
-use Rattle.laws.specs.Splice.{splice}
+use lib.ListN.{length, replicate}
+use Rattle.adapter.specs.Adapter.{zero_adapter}
 use Rattle.tables.specs.Tables.{tables_size, tables_of}
 use Rattle.tables.proofs.ZeroLaws.{zero_tables}
 use Rattle.contents.specs.Contents.{adapter_of}
-use Rattle.file.specs.File.{reads, refused_file}
 
 -- the phy count of what was read
 pub count_read : (file t : List ℕ) (p a : ℕ) → p ≤ 32 → tables_of t ≡ adapter_of file p a → (tables_of t).phy_count ≤ 32
 unfolding adapter_of
 count_read file t p a h e = rw e h
 
--- tables that were cleared
-pub refused_left : (t s : List ℕ) (call : ℕ) → length t ≡ tables_size → s ≡ splice t 0 (zeros tables_size) → reads call (tables_of s) ≡ refused_file call
-refused_left t s call e q = ap (reads call) (ap tables_of (cleared_all t s tables_size e q) ∙ zero_tables)
+-- tables filled with 0
+pub cleared : (t s : List ℕ) → length t ≡ tables_size → s ≡ replicate (length t) 0 → tables_of s ≡ zero_adapter
+cleared t s n e = ap tables_of (e ∙ ap (λ (k : ℕ). replicate k 0) n) ∙ zero_tables

@@ -1,54 +1,52 @@
 -- What is proved of the definitions in specs/Steps.antt. Assumes nothing.
 use mathlib.Core.Path.{◌≡◌, refl, sym, ◌∙◌, ap}
-use mathlib.Core.Bool.{Bool, true, false, cond, ◌&&◌}
-use mathlib.Core.List.{List, [], ◌∷◌}
+use mathlib.Core.Bool.{Bool, cond}
+use mathlib.Core.List.{List}
 use Prim.Native.Nat.{ℕ}
-use lib.Dec.{leb, eqb}
-use lib.ListN.{length}
-use borrow.Author.Tests.{ne_eqb}
+use lib.Dec.{eqb}
+use borrow.Author.Tests.{eqb-true, ne_eqb}
 use native.Mathlib.Omega.{arith}
-use Rattle.laws.specs.Checks.{Check, check, first_failing}
-use Rattle.codes.specs.Codes.{bad_file_length, block_check, bad_field}
-use Rattle.block.specs.Check.{block_at, sound, sound_to}
-use Rattle.layout.specs.Layout.{phy_count, row_count, blocks, file_length}
-use Rattle.unnamed.specs.Unnamed.{unnamed_zero}
-use Rattle.adapter.specs.Adapter.{Adapter, counts_hold, fields_all}
-use Rattle.contents.specs.Contents.{adapter_of}
+use Rattle.laws.specs.Checks.{first_failing}
+use Rattle.laws.specs.Choice.{by_bool}
+use Rattle.codes.specs.declared.call_error.CallError.{CallError}
+use Rattle.codes.specs.declared.call_error.CallError.TheVariants.{ShortBuffer, BadText, BadFileLength, BlockCheck, BadField, SharedRow, BadMediumLength, BadState}
+use Rattle.codes.specs.Numbers.{error_number}
+use Rattle.adapter.specs.Adapter.{Adapter, zero_adapter}
 use Rattle.file.specs.File.{FileRead, reads, refused_file, read_by, file_read}
-use Rattle.file.specs.Steps.{blocks_read, counts_read, fields_read, first_read, length_read}
+use Rattle.file.specs.Steps.{sized_then, fields_number, file_number, file_adapter}
 
--- one check before others
-next : (t : Bool) (number : ℕ) (cs : List Check) (ad : Adapter) → (number ≡ 0 → ⊥) → read_by (check t number ∷ cs) ad ≡ cond t (read_by cs ad) (refused_file number)
-unfolding read_by first_failing
-next true number cs ad n = refl
-next false number cs ad n = rw (ne_eqb number 0 n) refl
+-- what is left by a number
+abbrev left : ℕ → Adapter → FileRead
+left n ad = cond (eqb n 0) (reads 0 ad) (refused_file n)
 
-none_left : (ad : Adapter) → read_by [] ad ≡ reads 0 ad
-unfolding read_by first_failing
-none_left ad = refl
+-- the checks one after the other
+steps_read : (file : List ℕ) → file_read file ≡ left (file_number file) (file_adapter file)
+unfolding file_read read_by first_failing sized_then fields_number
+steps_read file = refl
 
-steps_read : (file : List ℕ) → file_read file ≡ first_read file
-unfolding file_read first_read counts_read length_read blocks_read fields_read
-steps_read file =
-    let p : ℕ = phy_count file in
-    let a : ℕ = row_count file in
-    let ad : Adapter = adapter_of file p a in
-    rw (
-      next (leb 512 (length file)) bad_file_length _ ad (λ e. omega arith),
-      next (sound (block_at file 0) 0) block_check _ ad (λ e. omega arith),
-      next (counts_hold p a) bad_field _ ad (λ e. omega arith),
-      next (eqb (file_length p a) (length file)) bad_file_length _ ad (λ e. omega arith),
-      next (sound_to file (blocks p a)) block_check _ ad (λ e. omega arith),
-      next (unnamed_zero file p a && fields_all ad) bad_field [] ad (λ e. omega arith),
-      none_left ad,
-    )
-    refl
+pub error_not_zero : (e : CallError) → error_number e ≡ 0 → ⊥
+error_not_zero ShortBuffer h = omega arith
+error_not_zero BadText h = omega arith
+error_not_zero BadFileLength h = omega arith
+error_not_zero BlockCheck h = omega arith
+error_not_zero BadField h = omega arith
+error_not_zero SharedRow h = omega arith
+error_not_zero BadMediumLength h = omega arith
+error_not_zero BadState h = omega arith
 
-pub file_by : (file : List ℕ) (x : FileRead) → x ≡ first_read file → x ≡ file_read file
-file_by file x e = e ∙ sym (steps_read file)
+-- a file that passed, and one that did not
+pub file_passed : (file : List ℕ) (ad : Adapter) → 0 ≡ file_number file → ad ≡ file_adapter file → reads 0 ad ≡ file_read file
+file_passed file ad e q = rw (q, steps_read file, ← e) refl
 
-pub first_call : (file : List ℕ) → (file_read file).call ≡ 0 → (first_read file).call ≡ 0
-first_call file h = ap (λ (x : FileRead). x.call) (sym (steps_read file)) ∙ h
+pub file_refused : (file : List ℕ) (ad : Adapter) (e : CallError) → error_number e ≡ file_number file → ad ≡ zero_adapter → reads (error_number e) ad ≡ file_read file
+file_refused file ad e p q = rw (q, steps_read file, ← p, ne_eqb (error_number e) 0 (error_not_zero e)) refl
 
-pub first_adapter : (file : List ℕ) → (file_read file).adapter ≡ (first_read file).adapter
-first_adapter file = ap (λ (x : FileRead). x.adapter) (steps_read file)
+-- the other way
+pub passed_number : (file : List ℕ) → (file_read file).call ≡ 0 → file_number file ≡ 0
+passed_number file h = at (file_number file) (ap (λ (x : FileRead). x.call) (sym (steps_read file)) ∙ h)
+  where
+    at : (n : ℕ) → (left n (file_adapter file)).call ≡ 0 → n ≡ 0
+    at n p = by_bool (λ (b : Bool). eqb n 0 ≡ b → (cond b (reads 0 (file_adapter file)) (refused_file n)).call ≡ 0 → n ≡ 0) (λ e q. eqb-true n 0 e) (λ e q. q) (eqb n 0) refl p
+
+pub passed_adapter : (file : List ℕ) → file_number file ≡ 0 → (file_read file).adapter ≡ file_adapter file
+passed_adapter file z = ap (λ (x : FileRead). x.adapter) (steps_read file) ∙ rw z refl

@@ -1,30 +1,39 @@
--- The checks of a file one after the other, as the code makes them (`StepsLaws.antt`: they give what the list gives). Assumes nothing.
-use Rattle.std.specs.Prelude.{Bool, cond, ◌&&◌, List, ℕ, leb, eqb, length}
+-- The checks of a file as the code makes them (`StepsLaws.antt`: they give what the list gives). Assumes nothing.
+use Rattle.std.specs.Prelude.{cond, ◌&&◌, List, ℕ, leb, eqb, length, Result, Ok, Err}
 use Rattle.codes.specs.Codes.{bad_file_length, block_check, bad_field}
+use Rattle.codes.specs.declared.call_error.CallError.{CallError}
+use Rattle.codes.specs.Numbers.{error_number}
 use Rattle.block.specs.Check.{block_at, sound, sound_to}
 use Rattle.layout.specs.Layout.{phy_count, row_count, blocks, file_length}
 use Rattle.unnamed.specs.Unnamed.{unnamed_zero}
 use Rattle.adapter.specs.Adapter.{Adapter, counts_hold, fields_all}
 use Rattle.contents.specs.Contents.{adapter_of}
-use Rattle.file.specs.File.{FileRead, reads, refused_file}
 
--- what is left to do from one check on
-abbrev pub settled_as : Bool → Adapter → FileRead
-settled_as ok ad = cond ok (reads 0 ad) (refused_file bad_field)
+-- an error's number; else that of what follows
+abbrev pub call_then : {A : Type 0} → Result A CallError → ℕ → ℕ
+call_then (Ok x) next = next
+call_then (Err error) next = error_number error
 
-unfoldable pub fields_read : List ℕ → ℕ → ℕ → FileRead
-fields_read file p a = settled_as (unnamed_zero file p a && fields_all (adapter_of file p a)) (adapter_of file p a)
+-- the number of the first check before the fields that a file fails; else that of what follows
+unfoldable pub sized_then : List ℕ → ℕ → ℕ
+sized_then file next =
+    cond (leb 512 (length file))
+    (cond (sound (block_at file 0) 0)
+    (cond (counts_hold (phy_count file) (row_count file))
+    (cond (eqb (file_length (phy_count file) (row_count file)) (length file))
+    (cond (sound_to file (blocks (phy_count file) (row_count file))) next block_check)
+    bad_file_length)
+    bad_field)
+    block_check)
+    bad_file_length
 
-unfoldable pub blocks_read : List ℕ → ℕ → ℕ → FileRead
-blocks_read file p a = cond (sound_to file (blocks p a)) (fields_read file p a) (refused_file block_check)
+-- that of the unnamed bytes and the fields, in a file with p phys and `a` rows
+unfoldable pub fields_number : List ℕ → ℕ → ℕ → ℕ
+fields_number file p a = cond (unnamed_zero file p a && fields_all (adapter_of file p a)) 0 bad_field
 
-unfoldable pub length_read : List ℕ → ℕ → ℕ → FileRead
-length_read file p a = cond (eqb (file_length p a) (length file)) (blocks_read file p a) (refused_file bad_file_length)
+-- the number of a file, and the adapter that its counts give
+abbrev pub file_number : List ℕ → ℕ
+file_number file = sized_then file (fields_number file (phy_count file) (row_count file))
 
-unfoldable pub counts_read : List ℕ → ℕ → ℕ → FileRead
-counts_read file p a = cond (counts_hold p a) (length_read file p a) (refused_file bad_field)
-
-unfoldable pub first_read : List ℕ → FileRead
-first_read file =
-    cond (leb 512 (length file)) (cond (sound (block_at file 0) 0) (counts_read file (phy_count file) (row_count file)) (refused_file block_check))
-    (refused_file bad_file_length)
+abbrev pub file_adapter : List ℕ → Adapter
+file_adapter file = adapter_of file (phy_count file) (row_count file)

@@ -3,26 +3,25 @@
 // the end puts nothing), 1 if the checks are made anew after that, and by how many bytes the file is cut.
 #![tactic(auto)]
 
-ghost use Rattle.std.specs.Prelude.{◌≡◌, ◌<◌, ◌≤◌, ◌+◌, ◌*◌, length};
-ghost use Rattle.tables.specs.Tables.{tables_size};
+ghost use Rattle.std.specs.Prelude.{◌<◌, ◌≤◌, ◌+◌, ◌*◌, length};
 
+use codes::CallError;
 use reading::{large_buffer, read_full};
 use std::io;
 use std::io::Write;
 
+// The bytes of a line of stdin.
+const LINE_SIZE: usize = 25;
+
 // A line's numbers.
-#[derive(Clone, Copy)]
+#[derive(Clone, Copy, Debug)]
 struct Numbers {
     p: usize,
     a: usize,
     at: usize,
     value: usize,
-    anew: usize,
+    anew: bool,
     cut: usize,
-}
-
-fn say_number<W: Write>(out: &mut W, n: u64) -> io::Result<()> {
-    write!(out, "{n}")
 }
 
 fn put(file: &mut [u8], at: usize, value: usize) {
@@ -54,16 +53,11 @@ fn put_sata(file: &mut [u8], at: usize)
 fn put_sas(file: &mut [u8], at: usize, turn: usize)
     requires { at < 65536 }
 {
-    if turn == 1 {
-        put_sata(file, at);
-        return;
-    }
-    if turn == 2 {
-        put_attached(file, at, 0x10, 8);
-        return;
-    }
-    if turn == 3 {
-        put_attached(file, at, 0x20, 2);
+    match turn {
+        1 => put_sata(file, at),
+        2 => put_attached(file, at, 0x10, 8),
+        3 => put_attached(file, at, 0x20, 2),
+        _ => {}
     }
 }
 
@@ -98,10 +92,8 @@ fn put_phy(file: &mut [u8], n: usize)
 fn put_phys(file: &mut [u8], p: usize)
     requires { p < 64 }
 {
-    let mut n = 0;
-    while n < p {
+    for n in 0..p {
         put_phy(file, n);
-        n += 1;
     }
 }
 
@@ -120,10 +112,8 @@ fn put_row(file: &mut [u8], p: usize, i: usize)
 fn put_rows(file: &mut [u8], p: usize, a: usize)
     requires { (p < 64) × (a < 128) }
 {
-    let mut i = 0;
-    while i < a {
+    for i in 0..a {
         put_row(file, p, i);
-        i += 1;
     }
 }
 
@@ -150,10 +140,8 @@ fn put_connector(file: &mut [u8], at: usize, n: usize)
 fn put_connectors(file: &mut [u8], from: usize, p: usize)
     requires { (from < 65536) × (p < 64) }
 {
-    let mut n = 0;
-    while n < p {
-        put_connector(file, from + 512 * n, n);
-        n += 1;
+    for n in 0..p {
+        put_connector(file, from + block::SIZE * n, n);
     }
 }
 
@@ -161,52 +149,48 @@ fn put_connectors(file: &mut [u8], from: usize, p: usize)
 fn seal_block(file: &mut [u8], k: usize)
     requires { 512 * k + 512 ≤ length file.old }
 {
-    let check = block::check(&file[512 * k..512 * k + 512], k);
-    wire::write32(file, 512 * k + 508, check);
+    let block = &file[block::SIZE * k..block::SIZE * k + block::SIZE];
+    let check = block::check(block.try_into().unwrap(), k);
+    wire::write32(file, block::SIZE * k + 508, check);
 }
 
 fn seal(file: &mut [u8]) {
-    let n = file.len() / 512;
-    let mut k = 0;
-    while k < n {
+    for k in 0..file.len() / block::SIZE {
         seal_block(file, k);
-        k += 1;
     }
 }
 
-// The number that the file part and the rows give.
-fn judged(call: u32, tables: &[u8], a: u8) -> u32
-    requires { (a ≤ 64) × (length tables.now ≡ tables_size) }
+// What the file part and the rows come to.
+fn judged(read: Result<(), CallError>, tables: &[u8; tables::SIZE], a: u8) -> Result<(), CallError>
+    requires { a ≤ 64 }
 {
-    if call != 0 {
-        return call;
+    read?;
+    if rows::rows_hold(tables::rows(tables), usize::from(a)) {
+        Ok(())
+    } else {
+        Err(CallError::SharedRow)
     }
-    if rows::rows_hold(&tables[tables::ROWS..tables::CONTROLLER], a as usize) {
-        return 0;
-    }
-    105
 }
 
-fn show_read<W: Write>(out: &mut W, call: u32, tables: &[u8]) -> io::Result<()>
-    requires { length tables.now ≡ tables_size }
-{
+fn show_read<W: Write>(
+    out: &mut W,
+    read: Result<(), CallError>,
+    tables: &[u8; tables::SIZE],
+) -> io::Result<()> {
+    let p = tables::phy_count(tables);
     let a = tables::row_count(tables);
     if 64 < a {
         return Ok(());
     }
-    say_number(out, judged(call, tables, a) as u64)?;
-    out.write_all(b" ")?;
-    say_number(out, tables::phy_count(tables) as u64)?;
-    out.write_all(b" ")?;
-    say_number(out, a as u64)?;
-    out.write_all(b"\n")
+    let call = codes::call_number(judged(read, tables, a));
+    write!(out, "{call} {p} {a}\n")
 }
 
 // What a file gives, with the counts that were read.
 fn show<W: Write>(out: &mut W, file: &[u8]) -> io::Result<()> {
     let mut tables = [0u8; tables::SIZE];
-    let call = file::read_file(&mut tables, file);
-    show_read(out, call, &tables)
+    let read = file::read_file(&mut tables, file);
+    show_read(out, read, &tables)
 }
 
 // The size of a file with p phys and a rows.
@@ -236,12 +220,6 @@ fn build(file: &mut [u8], p: usize, a: usize)
     seal(file);
 }
 
-fn seal_anew(file: &mut [u8], anew: usize) {
-    if anew == 1 {
-        seal(file);
-    }
-}
-
 // The file without its last bytes.
 fn show_cut<W: Write>(out: &mut W, file: &[u8], cut: usize) -> io::Result<()> {
     if cut <= file.len() {
@@ -256,7 +234,9 @@ fn try_file<W: Write>(out: &mut W, file: &mut [u8], n: Numbers) -> io::Result<()
 {
     build(file, n.p, n.a);
     put(file, n.at, n.value);
-    seal_anew(file, n.anew);
+    if n.anew {
+        seal(file);
+    }
     show_cut(out, file, n.cut)
 }
 
@@ -268,51 +248,42 @@ fn try_sized<W: Write>(out: &mut W, n: Numbers, end: usize) -> io::Result<()>
 }
 
 fn try_numbers<W: Write>(out: &mut W, n: Numbers) -> io::Result<()> {
-    if n.p < 64 {
-        if n.a < 128 {
-            try_sized(out, n, size(n.p, n.a))?;
-        }
+    if n.p < 64 && n.a < 128 {
+        try_sized(out, n, size(n.p, n.a))?;
     }
     Ok(())
 }
 
-// The decimal number of n digits at an index, its last five.
-fn field(s: &[u8], from: usize, n: usize) -> usize
-    requires { from + n ≤ length s.now }
+// The decimal number that some digits are, its last five.
+fn field(digits: &[u8]) -> usize
     ensures { result < 100000 }
 {
     let mut value = 0;
-    let mut k = 0;
-    while k < n {
-        value = value % 10000 * 10 + (s[from + k] % 16 % 10) as usize;
-        k += 1;
+    for digit in digits {
+        value = value % 10000 * 10 + usize::from(*digit % 16 % 10);
     }
     value
 }
 
-// A line of 25 bytes: its numbers have 2, 3, 5, 3, 1 and 5 digits, each with a byte behind it.
-fn try_line<W: Write>(out: &mut W, line: &[u8]) -> io::Result<()>
-    requires { length line.now ≡ 25 }
-{
+// A line's numbers have 2, 3, 5, 3, 1 and 5 digits, each with a byte behind it.
+fn try_line<W: Write>(out: &mut W, line: &[u8; LINE_SIZE]) -> io::Result<()> {
     try_numbers(
         out,
         Numbers {
-            p: field(line, 0, 2),
-            a: field(line, 3, 3),
-            at: field(line, 7, 5),
-            value: field(line, 13, 3),
-            anew: field(line, 17, 1),
-            cut: field(line, 19, 5),
+            p: field(&line[0..2]),
+            a: field(&line[3..6]),
+            at: field(&line[7..12]),
+            value: field(&line[13..16]),
+            anew: field(&line[17..18]) == 1,
+            cut: field(&line[19..24]),
         },
     )
 }
 
 fn try_lines<W: Write>(out: &mut W, input: &[u8]) -> io::Result<()> {
-    let n = input.len() / 25;
-    let mut i = 0;
-    while i < n {
-        try_line(out, &input[25 * i..25 * i + 25])?;
-        i += 1;
+    let (lines, _) = input.as_chunks::<LINE_SIZE>();
+    for line in lines {
+        try_line(out, line)?;
     }
     Ok(())
 }

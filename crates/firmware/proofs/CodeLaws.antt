@@ -6,7 +6,7 @@ use Prim.Native.Nat.{ℕ, ◌+◌, ◌-◌, ◌/◌, ◌%◌, ◌≤◌}
 use native.Mathlib.Nat.{add-sub_cancel_left}
 use native.Mathlib.Omega.{arith}
 use lib.Dec.{eqb, leb}
-use lib.ListN.{length, take, drop}
+use lib.ListN.{take, drop}
 use borrow.Author.Tests.{leb-true}
 use Rattle.laws.specs.Choice.{both_left, both_right}
 use Rattle.laws.specs.Splice.{part, splice, part_part}
@@ -28,9 +28,6 @@ module _ (n : ℕ) (h : blocks_hold n ≡ true) where
   pub blocks_few : n ≤ stage_size
   unfolding blocks_hold
   blocks_few = leb-true n 16384 (both_right (eqb (n % 512) 0 && leb 512 n) (leb n 16384) h)
-
-pub blocks_fit : (n : ℕ) (stage : List ℕ) → blocks_hold n ≡ true → length stage ≡ stage_size → n ≤ length stage
-blocks_fit n stage h e = rw e (blocks_few n h)
 
 pub blocks_by : (n m : ℕ) (r : Bool) → n ≡ m → r ≡ blocks_hold n → r ≡ blocks_hold m
 blocks_by n m r e p = p ∙ ap blocks_hold e
@@ -57,12 +54,12 @@ pub image_copied : (stage s body : List ℕ) (n : ℕ) → n ≡ buffer_length b
 image_copied stage s body n e p = p ∙ ap (λ (k : ℕ). splice stage 0 (part body image_place k)) e
 
 -- and noted
-pub image_staged_lem : (ad bd : Adapter) (stage s body b : List ℕ) → 512 ≤ buffer_length body → s ≡ splice stage 0 (image_of body)
-    → bd ≡ with_staged ad (image_staged (part body image_place 8)) → b ≡ acknowledged body → downloads success bd s b ≡ validated ad stage body
+pub image_staged_lem : (ad bd : Adapter) (stage s body b v : List ℕ) → s ≡ splice stage 0 (image_of body) → bd ≡ with_staged ad (image_staged v)
+    → b ≡ acknowledged body → 512 ≤ buffer_length body → v ≡ part body image_place 8 → downloads success bd s b ≡ validated ad stage body
 unfolding validated
-image_staged_lem ad bd stage s body b h p q k =
-    let v : revisions_of body ≡ part body image_place 8 = part_part body image_place (buffer_length body) 0 8 (omega arith) in
-    rw (p, q, k, v)
+image_staged_lem ad bd stage s body b v p q k h e =
+    let w : revisions_of body ≡ part body image_place 8 = part_part body image_place (buffer_length body) 0 8 (omega arith) in
+    rw (p, q, k, w, e)
 
 -- ---- a commit
 

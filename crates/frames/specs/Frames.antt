@@ -1,7 +1,7 @@
 -- What stands before each request of a session. In the program's format that is its length (document 01, "Starred cases", its last paragraphs); in
 -- a session of both headers (W-201) it is which header the request has, its control code and its length. The program's limit of 32,768 bytes for a request
 -- is not the library's, which has each request in memory already. Assumes nothing.
-use Rattle.std.specs.Prelude.{Bool, cond, List, [], ◌∷◌, ℕ, zero, suc, ◌+◌, eqb, leb, length, take, drop}
+use Rattle.std.specs.Prelude.{Option, Some, None, Bool, cond, List, [], ◌∷◌, ℕ, zero, suc, ◌+◌, eqb, leb, length, take, drop}
 use Rattle.laws.specs.Splice.{part}
 use Rattle.wire.specs.Number.{number}
 use Rattle.header.specs.declared.Kind.{Kind}
@@ -46,6 +46,11 @@ first_size f session =
     cond (leb (prefix_size f) (length session))
     (cond (says_kind (prefix_of f session)) (cond (leb (said_size f session) (length session)) (said_size f session) 0) 0)
     0
+
+-- the same as it is answered: none where they are 0
+abbrev pub first_said : Option ℕ → ℕ
+first_said None = 0
+first_said (Some size) = size
 
 abbrev pub first_of : Framing → List ℕ → List ℕ
 first_of f session = take (first_size f session) session

@@ -1,23 +1,24 @@
-// What stands before each request of a session: how long it is and, where both headers may come, which one it has (document 01, "Starred
-// cases", its last paragraphs; W-201).
+//! What stands before each request of a session: how long it is and, where both headers may come, which one it has (document 01, "Starred
+//! cases", its last paragraphs; W-201).
 #![tactic(auto)]
 
-ghost use Rattle.std.specs.Prelude.{◌≡◌, ◌≤◌, length};
-ghost use Rattle.frames.specs.Frames.{prefix_size, prefix_of, says_kind, kind_of, first_size};
+ghost use Rattle.std.specs.Prelude.{◌≡◌, ◌≤◌, length, IfSome};
+ghost use Rattle.frames.specs.Frames.{prefix_size, prefix_of, says_kind, kind_of, first_size, first_said};
 
 use header::Kind;
 
-// Which requests a session has, and so what stands before each.
-#[derive(Clone, Copy)]
+/// Which requests a session has, and so what stands before each.
+#[derive(Clone, Copy, Debug, PartialEq, Eq, Hash)]
 pub enum Framing {
-    // under the first header: a length
+    /// Under the first header: a length.
     FirstHeader,
-    // under either: its header, its control code, its length
+    /// Under either: its header, its control code, its length.
     BothHeaders,
 }
 
-// What stands before a request. Where that is a length alone, the header is the first and the control code 0.
-#[derive(Clone, Copy)]
+/// What stands before a request. Where that is a length alone, the header is the first and the control code 0.
+// The header stays a number: the definition `first_size` asks `says_kind` of what was read, a number that is neither header too.
+#[derive(Clone, Copy, Debug, PartialEq, Eq, Hash)]
 pub struct Prefix {
     pub header: u32,
     pub control: u32,
@@ -29,7 +30,7 @@ const FIRST_HEADER: u32 = 0;
 
 const LINUX_HEADER: u32 = 1;
 
-// The bytes before a request's own.
+/// The bytes before a request's own.
 pub fn prefix_size(framing: Framing) -> usize
     ensures { result ≡ prefix_size framing }
 {
@@ -39,7 +40,7 @@ pub fn prefix_size(framing: Framing) -> usize
     }
 }
 
-// What they say.
+/// What they say.
 pub fn read_prefix(framing: Framing, session: &[u8]) -> Prefix
     requires { prefix_size framing ≤ length session.now }
     ensures { result ≡ prefix_of framing session.now }
@@ -59,43 +60,46 @@ pub fn read_prefix(framing: Framing, session: &[u8]) -> Prefix
 }
 
 // They say a header, and a control code beside the Linux one alone.
-#[tactic(auto, using(laws::specs::Choice::picks), unfolding(crate::specs::Frames::says_kind))]
+#[tactic(auto, unfolding(crate::specs::Frames::says_kind))]
 fn says_kind(prefix: Prefix) -> bool
     ensures { result ≡ says_kind prefix }
 {
-    if prefix.header == FIRST_HEADER {
-        return prefix.control == 0;
+    match prefix.header {
+        FIRST_HEADER => prefix.control == 0,
+        LINUX_HEADER => true,
+        _ => false,
     }
-    prefix.header == LINUX_HEADER
 }
 
-// The header that they say.
-#[tactic(auto, using(laws::specs::Choice::picks), unfolding(crate::specs::Frames::kind_of))]
+/// The header that they say.
+#[tactic(auto, unfolding(crate::specs::Frames::kind_of))]
 pub fn kind_of(prefix: Prefix) -> Kind
     ensures { result ≡ kind_of prefix }
 {
-    if prefix.header == FIRST_HEADER {
-        return Kind::Srb;
+    match prefix.header {
+        FIRST_HEADER => Kind::Srb,
+        _ => Kind::Linux(prefix.control),
     }
-    Kind::Linux(prefix.control)
 }
 
-// The bytes that the first request of a session stands in, with what is before it; 0 where no whole request does.
-#[tactic(auto, using(crate::proofs::FramesLaws::first_short, crate::proofs::FramesLaws::first_whole, crate::proofs::FramesLaws::first_cut, crate::proofs::FramesLaws::first_unsaid))]
-pub fn first_size(framing: Framing, session: &[u8]) -> usize
-    ensures value { result ≡ first_size framing session.now }
-    ensures upper_bound { result ≤ length session.now }
+/// The bytes that the first request of a session stands in, with what is before it; none where no
+/// whole request does.
+#[tactic(auto, unfolding(crate::specs::Frames::first_size))]
+pub fn first_size(framing: Framing, session: &[u8]) -> Option<usize>
+    ensures value { first_said result ≡ first_size framing session.now }
+    ensures bounds { IfSome result (λ size. (prefix_size framing ≤ size) × (size ≤ length session.now)) }
 {
     let before = prefix_size(framing);
     if session.len() < before {
-        return 0;
+        return None;
     }
     let prefix = read_prefix(framing, session);
-    let size = before + prefix.length as usize;
-    if says_kind(prefix) {
-        if size <= session.len() {
-            return size;
-        }
+    if !says_kind(prefix) {
+        return None;
     }
-    0
+    let size = before + prefix.length as usize;
+    if session.len() < size {
+        return None;
+    }
+    Some(size)
 }

@@ -2,3 +2,4 @@
 pub mod FormLaws
 pub mod LengthLaws
 pub mod SentLaws
+pub mod AccessLaws

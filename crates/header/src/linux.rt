@@ -1,10 +1,11 @@
 // The checks on the Linux header, in their order. The control code is handed in beside the buffer.
-ghost use Rattle.std.specs.Prelude.{◌≡◌, ◌≤◌, length};
+ghost use Rattle.std.specs.Prelude.{◌≡◌, ◌≤◌, length, IfOk};
+ghost use Rattle.codes.specs.Numbers.{code_of, control_number};
 ghost use Rattle.header.specs.Form.{linux};
 ghost use Rattle.header.specs.Linux.{direction_holds, linux_length_holds, linux_code};
 
 use crate::length::length_holds;
-use control_codes::is_known;
+use codes::{ControlCode, ReturnCode};
 
 // The bytes of the header, and the place of its return code.
 pub const SIZE: usize = 20;
@@ -19,8 +20,10 @@ fn direction_holds(buffer: &[u8]) -> bool
     requires { linux.size ≤ length buffer.now }
     ensures { result ≡ direction_holds buffer.now }
 {
-    let direction = wire::read16(buffer, 16);
-    (direction == codes::DATA_READ) | (direction == codes::DATA_WRITE)
+    matches!(
+        wire::read16(buffer, 16),
+        codes::DATA_READ | codes::DATA_WRITE
+    )
 }
 
 #[tactic(auto, using(crate::proofs::LengthLaws::short_header, crate::proofs::LengthLaws::linux_length_by))]
@@ -35,20 +38,19 @@ fn all_length_holds(control: u32, buffer: &[u8]) -> bool
     length_holds(control, n - HEADER_LENGTH, &buffer[SIZE..])
 }
 
-// Of the checks, the return code of the first that fails, or 0. There is no level to pass: no need is above Full.
-#[tactic(auto, using(laws::specs::Choice::picks), unfolding(crate::specs::Linux::linux_code))]
-pub fn linux_code(control: u32, buffer: &[u8]) -> u32
+// The control code of a request that passes them. There is no level to pass: no need is above Full.
+#[tactic(auto, using(control_codes::proofs::KnownLaws::conversion), unfolding(crate::specs::Linux::linux_code))]
+pub fn checked_code(control: u32, buffer: &[u8]) -> Result<ControlCode, ReturnCode>
     requires { linux.size ≤ length buffer.now }
-    ensures { result ≡ linux_code control buffer.now }
+    ensures code { code_of result ≡ linux_code control buffer.now }
+    ensures number { IfOk result (λ code. control_number code ≡ control) }
 {
-    if direction_holds(buffer) {
-        if is_known(control) {
-            if all_length_holds(control, buffer) {
-                return codes::SUCCESS;
-            }
-            return codes::INVALID_PARAMETER;
-        }
-        return codes::BAD_CONTROL_CODE;
+    if !direction_holds(buffer) {
+        return Err(ReturnCode::InvalidParameter);
     }
-    codes::INVALID_PARAMETER
+    let code = ControlCode::try_from(control)?;
+    if !all_length_holds(control, buffer) {
+        return Err(ReturnCode::InvalidParameter);
+    }
+    Ok(code)
 }

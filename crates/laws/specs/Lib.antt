@@ -3,6 +3,8 @@ pub mod All
 pub mod First
 pub mod Sum
 pub mod Largest
+pub mod Range
+pub mod Lent
 pub mod Fill
 pub mod Splice
 pub mod Copy

@@ -9,8 +9,7 @@ use Rattle.laws.specs.Ascii.{ascii}
 use Rattle.laws.specs.Choice.{either}
 use Rattle.wire.specs.Same.{same_bytes}
 use Rattle.level.specs.declared.Level.{Level}
-use Rattle.level.specs.declared.Setting.{Setting}
-use Rattle.level.specs.declared.TextLevel.{TextLevel}
+use Rattle.level.specs.Setting.{Setting, TextLevel}
 use Rattle.level.specs.Text.{full, entries, ours, exact, setting_of, meant, text_level}
 use Rattle.level.specs.Need.{restricted_commands, limited_commands, among, need_of}
 

@@ -1,5 +1,5 @@
+pub mod Setting
 pub mod Text
 pub mod Need
 pub mod Ranges
-pub mod Walk
 pub mod Starred

@@ -5,9 +5,7 @@ use Rattle.laws.specs.Splice.{part}
 use Rattle.codes.specs.Codes.{bad_text}
 use Rattle.wire.specs.Same.{same_bytes}
 use Rattle.level.specs.declared.Level.{Level}
-use Rattle.level.specs.declared.Setting.{Setting}
-use Rattle.level.specs.declared.Setting.TheVariants.{Absent, Given, Bad}
-use Rattle.level.specs.declared.TextLevel.{TextLevel}
+use Rattle.level.specs.Setting.{Setting, Absent, Given, Bad, TextLevel}
 
 -- "Level numbers: None 0, Restricted 1, Limited 2, Full 3"
 abbrev pub none : Level

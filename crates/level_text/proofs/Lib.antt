@@ -1,3 +1,2 @@
 -- The laws that the proofs of this crate cite.
-pub mod MadeLaws
-pub mod WalkLaws
+pub mod EntriesLaws

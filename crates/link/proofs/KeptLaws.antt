@@ -4,49 +4,28 @@ use mathlib.Core.Bool.{Bool, true, ◌||◌}
 use Prim.Native.Nat.{ℕ}
 use lib.Dec.{eqb}
 use lib.ListN.{length}
-use borrow.Author.Tests.{eq-eqb, ne_eqb}
+use borrow.Author.Tests.{eq-eqb}
 use Rattle.laws.specs.Choice.{by_bool, either}
 use Rattle.phy.specs.declared.Phy.{Phy}
 use Rattle.phy.specs.declared.PhyIdentifier.{PhyIdentifier}
-use Rattle.phy.specs.Entity.{no_device, negotiated_of, programmed_minimum, programmed_maximum}
+use Rattle.phy.specs.Entity.{negotiated_of}
 use Rattle.phy.specs.Change.{cleared, raised, negotiated_as}
 use Rattle.fields.specs.Rules.{fields_hold}
 use Rattle.phy.proofs.KeptLaws.{Kept, Settings, kept_trans, settings_trans}
 use Rattle.phy.proofs.ChangedLaws.{kept_cleared, kept_raised, kept_negotiated, settings_cleared, settings_raised, settings_negotiated, negotiated_cleared, negotiated_raised, negotiated_now}
 use Rattle.fields.proofs.HoldLaws.{fields_kept}
 use Rattle.codes.specs.Codes.{phy_disabled, link_rate_failed}
-use Rattle.link.specs.Rule.{rates_rule, plain_rule, rule_of, counted, reset, disabled, negotiated_holds}
-
--- ---- the rule and a reset, by their steps
-
-pub plain_by : (phy : Phy) (none : Bool) (minimum maximum r : ℕ) → none ≡ no_device phy → minimum ≡ programmed_minimum phy → maximum ≡ programmed_maximum phy
-    → r ≡ rates_rule none minimum maximum phy.lowest phy.highest → r ≡ plain_rule phy
-unfolding plain_rule
-plain_by phy none minimum maximum r p q s e = e ∙ rw (p, q, s)
-
-pub reset_by : (phy a r : Phy) (rate : ℕ) → rate ≡ rule_of phy → a ≡ negotiated_as phy rate → r ≡ counted a rate → r ≡ reset phy
-unfolding reset
-reset_by phy a r rate e p q = q ∙ rw (p, e)
+use Rattle.link.specs.Rule.{plain_rule, rule_of, counted, reset, disabled, negotiated_holds}
 
 pub holds_of : (phy x : Phy) (r : Bool) → x ≡ phy → r ≡ negotiated_holds x → r ≡ negotiated_holds phy
 holds_of phy x r e p = rw e at p
 
--- ---- what they keep
+-- ---- what a reset and disabling keep
 
 -- the rule goes by what neither changes
 rule_kept : (a b : Phy) → Kept a b → Settings a b → rule_of b ≡ rule_of a
 unfolding rule_of plain_rule
 rule_kept a b k s = cc
-
--- what the code finds: the rate r of a phy, and the rate x that the rule gives it
-module _ (phy : Phy) (r : ℕ) (e : r ≡ negotiated_of phy) where
-  pub disabled_passes : r ≡ phy_disabled → true ≡ negotiated_holds phy
-  unfolding negotiated_holds
-  disabled_passes d = rw (← e, d) refl
-
-  pub other_passes : (x : ℕ) → (r ≡ phy_disabled → ⊥) → x ≡ rule_of phy → eqb r x ≡ negotiated_holds phy
-  unfolding negotiated_holds
-  other_passes x n q = rw (← e, ← q, ne_eqb r phy_disabled n) refl
 
 -- a rate that is what the rule gives passes
 given : (phy : Phy) → negotiated_of phy ≡ rule_of phy → negotiated_holds phy ≡ true

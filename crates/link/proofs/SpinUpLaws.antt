@@ -53,14 +53,6 @@ module _ (phy : Phy) where
   unfolding rule_of
   rule_held e = ap (λ (t : Bool). cond t (waiting_rate (plain_rule phy)) (plain_rule phy)) (eq-eqb phy.spinup_hold 1 e)
 
-  -- what the code finds: the plain rate x, and what it makes of it
-  pub rule_now : (x r : ℕ) → phy.spinup_hold ≡ 1 → x ≡ plain_rule phy → r ≡ waiting_rate x → r ≡ rule_of phy
-  rule_now x r e p q = q ∙ ap waiting_rate p ∙ sym (rule_held e)
-
-  pub rule_plain : (r : ℕ) → (phy.spinup_hold ≡ 1 → ⊥) → r ≡ plain_rule phy → r ≡ rule_of phy
-  unfolding rule_of
-  rule_plain r d q = q ∙ sym (ap (λ (t : Bool). cond t (waiting_rate (plain_rule phy)) (plain_rule phy)) (ne_eqb phy.spinup_hold 1 d))
-
   rule_waits : rule_of phy ≡ sata_spinup_hold → (phy.spinup_hold ≡ 1) × (is_rate (rule_of (released phy)) ≡ true)
   unfolding rule_of
   rule_waits =

@@ -1,91 +1,65 @@
-// The rate that a phy and the device attached to it agree on, a link reset, and a phy that is disabled (document 01, "Link
-// rule"; W-205).
+//! The rate that a phy and the device attached to it agree on, a link reset, and a phy that is
+//! disabled (document 01, "Link rule"; W-205).
 #![tactic(auto)]
 
 ghost use Rattle.std.specs.Prelude.{◌≡◌};
-ghost use Rattle.link.specs.Rule.{in_both, rates_rule, plain_rule, waiting_rate, rule_of, counted, reset, disabled, negotiated_holds};
+ghost use Rattle.phy.specs.Entity.{programmed_minimum, programmed_maximum};
+ghost use Rattle.link.specs.Rule.{in_both, plain_rule, rule_of, reset, disabled, negotiated_holds};
 
 use phy::Phy;
 
+// A rate inside both the programmed and the device range.
 #[tactic(auto, unfolding(crate::specs::Rule::in_both))]
-fn in_both(rate: u8, minimum: u8, maximum: u8, lowest: u8, highest: u8) -> bool
-    ensures { result ≡ in_both rate minimum maximum lowest highest }
+fn in_both(phy: Phy, rate: u8) -> bool
+    ensures { result ≡ in_both rate (programmed_minimum phy) (programmed_maximum phy) phy.lowest phy.highest }
 {
-    (minimum <= rate) & (rate <= maximum) & (lowest <= rate) & (rate <= highest)
+    (phy.programmed_minimum()..=phy.programmed_maximum()).contains(&rate)
+        && (phy.lowest..=phy.highest).contains(&rate)
 }
 
-#[tactic(auto, using(laws::specs::Choice::picks), unfolding(crate::specs::Rule::rates_rule))]
-fn rates_rule(none: bool, minimum: u8, maximum: u8, lowest: u8, highest: u8) -> u8
-    ensures { result ≡ rates_rule none minimum maximum lowest highest }
+// The rate of a phy that is not held at spin-up.
+#[tactic(auto, using(laws::specs::Choice::picks), unfolding(crate::specs::Rule::plain_rule, crate::specs::Rule::rates_rule))]
+fn plain_rule(phy: Phy) -> u8
+    ensures { result ≡ plain_rule phy }
 {
-    if none {
+    if phy.no_device() {
         return 0;
     }
-    if in_both(codes::LINK_RATE_3_0, minimum, maximum, lowest, highest) {
+    if in_both(phy, codes::LINK_RATE_3_0) {
         return codes::LINK_RATE_3_0;
     }
-    if in_both(codes::LINK_RATE_1_5, minimum, maximum, lowest, highest) {
+    if in_both(phy, codes::LINK_RATE_1_5) {
         return codes::LINK_RATE_1_5;
     }
     codes::LINK_RATE_FAILED
 }
 
-// The same of a phy, held at spin-up or not.
-#[tactic(auto, using(crate::proofs::KeptLaws::plain_by))]
-fn plain_rule(phy: Phy) -> u8
-    ensures { result ≡ plain_rule phy }
+/// The rate that a link reset gives. A device that waits for its spin-up has no rate yet.
+#[tactic(auto, unfolding(crate::specs::Rule::rule_of, crate::specs::Rule::waiting_rate))]
+pub fn rule(phy: Phy) -> u8
+    ensures { result ≡ rule_of phy }
 {
-    rates_rule(
-        phy.no_device(),
-        phy.programmed_minimum(),
-        phy.programmed_maximum(),
-        phy.lowest,
-        phy.highest,
-    )
-}
-
-// A device that waits for its spin-up has no rate yet.
-#[tactic(auto, using(laws::specs::Choice::picks), unfolding(crate::specs::Rule::waiting_rate))]
-fn waiting_rate(rate: u8) -> u8
-    ensures { result ≡ waiting_rate rate }
-{
-    if rates::is_rate(rate) {
+    let rate = plain_rule(phy);
+    if phy.spinup_hold == 1 && rates::is_rate(rate) {
         return codes::SATA_SPINUP_HOLD;
     }
     rate
 }
 
-// The rate that a link reset gives.
-#[tactic(auto, using(crate::proofs::SpinUpLaws::rule_now, crate::proofs::SpinUpLaws::rule_plain))]
-pub fn rule(phy: Phy) -> u8
-    ensures { result ≡ rule_of phy }
-{
-    if phy.spinup_hold == 1 {
-        return waiting_rate(plain_rule(phy));
-    }
-    plain_rule(phy)
-}
-
-#[tactic(auto, using(laws::specs::Choice::picks), unfolding(crate::specs::Rule::counted))]
-fn count_failure(phy: Phy, rate: u8) -> Phy
-    ensures { result ≡ counted phy rate }
-{
-    if rate == codes::LINK_RATE_FAILED {
-        return phy.raised();
-    }
-    phy
-}
-
-// The phy after a link reset.
-#[tactic(auto, using(crate::proofs::KeptLaws::reset_by))]
+/// The phy after a link reset. A link that failed is counted.
+#[tactic(auto, unfolding(crate::specs::Rule::reset, crate::specs::Rule::counted))]
 pub fn reset(phy: Phy) -> Phy
     ensures { result ≡ reset phy }
 {
     let rate = rule(phy);
-    count_failure(phy.with_negotiated(rate), rate)
+    let linked = phy.with_negotiated(rate);
+    if rate == codes::LINK_RATE_FAILED {
+        return linked.raised();
+    }
+    linked
 }
 
-// The phy disabled.
+/// The phy disabled.
 #[tactic(auto, unfolding(crate::specs::Rule::disabled))]
 pub fn disabled(phy: Phy) -> Phy
     ensures { result ≡ disabled phy }
@@ -93,14 +67,11 @@ pub fn disabled(phy: Phy) -> Phy
     phy.with_negotiated(codes::PHY_DISABLED)
 }
 
-// The field rule of the negotiated rate.
-#[tactic(auto, using(crate::proofs::KeptLaws::disabled_passes, crate::proofs::KeptLaws::other_passes))]
+/// The field rule of the negotiated rate.
+#[tactic(auto, unfolding(crate::specs::Rule::negotiated_holds))]
 pub fn negotiated_holds(phy: Phy) -> bool
     ensures { result ≡ negotiated_holds phy }
 {
     let negotiated = phy.negotiated();
-    if negotiated == codes::PHY_DISABLED {
-        return true;
-    }
-    negotiated == rule(phy)
+    negotiated == codes::PHY_DISABLED || negotiated == rule(phy)
 }

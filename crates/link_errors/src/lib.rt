@@ -1,15 +1,16 @@
-// Code 22, get link errors (document 01, "Request"). It works on the body of its request, the buffer after its header, and on the tables, in which
-// it stores the phy that it changes. It gives the return code.
+//! Code 22, get link errors (document 01, "Request"). It works on the body of its request, the
+//! buffer after its header, and on the tables, in which it stores the phy that it changes.
 #![tactic(auto)]
 
 ghost use Rattle.std.specs.Prelude.{◌≡◌, ◌<◌, ◌≤◌, length};
-ghost use Rattle.phy.specs.Change.{cleared};
 ghost use Rattle.codes.specs.Codes.{success};
-ghost use Rattle.adapter.specs.Adapter.{FewPhys, with_phy};
+ghost use Rattle.codes.specs.Numbers.{code_of};
+ghost use Rattle.adapter.specs.Adapter.{FewPhys};
 ghost use Rattle.adapter.specs.Changed.{gives, leaves};
-ghost use Rattle.tables.specs.Tables.{tables_size, tables_of};
-ghost use Rattle.link_errors.specs.LinkErrors.{counters_shown, after_reset, shown_and_reset, link_errors};
+ghost use Rattle.tables.specs.Tables.{tables_of};
+ghost use Rattle.link_errors.specs.LinkErrors.{counters_shown, after_reset, link_errors};
 
+use codes::ReturnCode;
 use phy::{Phy, PhyIdentifier};
 
 #[tactic(auto, unfolding(crate::specs::LinkErrors::counters_shown))]
@@ -23,57 +24,39 @@ fn put_counters(counters: [u32; 4], body: &mut [u8])
     wire::write32(body, 16, counters[3]);
 }
 
-fn clear_counters(tables: &mut [u8], n: PhyIdentifier, phy: Phy) -> u32
-    requires n_bound { n.0 < 32 }
-    requires tables_len { length tables.old ≡ tables_size }
-    ensures { gives result (tables_of tables.new) ≡ gives success (with_phy (tables_of tables.old) n.0 (cleared phy)) }
-{
-    tables::store_phy(tables, n, phy.cleared());
-    codes::SUCCESS
-}
-
 #[tactic(auto, using(laws::specs::Choice::picks), unfolding(crate::specs::LinkErrors::after_reset))]
-fn after_reset(tables: &mut [u8], n: PhyIdentifier, phy: Phy, reset: u8) -> u32
+fn show_and_reset(
+    tables: &mut [u8; tables::SIZE],
+    n: PhyIdentifier,
+    phy: Phy,
+    reset: u8,
+    body: &mut [u8],
+)
     requires n_bound { n.0 < 32 }
-    requires tables_len { length tables.old ≡ tables_size }
-    ensures { gives result (tables_of tables.new) ≡ after_reset (tables_of tables.old) n phy reset }
-{
-    if reset == codes::LINK_ERROR_RESET_COUNTS {
-        return clear_counters(tables, n, phy);
-    }
-    codes::SUCCESS
-}
-
-fn show_counters(tables: &mut [u8], n: PhyIdentifier, reset: u8, body: &mut [u8]) -> u32
-    requires n_bound { n.0 < 32 }
-    requires tables_len { length tables.old ≡ tables_size }
     requires in_bounds { 20 ≤ length body.old }
-    ensures { leaves result (tables_of tables.new) body.new ≡ shown_and_reset (tables_of tables.old) n reset body.old }
+    ensures tables { gives success (tables_of tables.new) ≡ after_reset (tables_of tables.old) n phy reset }
+    ensures body { body.new ≡ counters_shown body.old phy.counters }
 {
-    let phy = tables::phy_at(tables, n);
-    let counters = phy.counters;
-    put_counters(counters, body);
-    after_reset(tables, n, phy, reset)
+    put_counters(phy.counters, body);
+    if reset == codes::LINK_ERROR_RESET_COUNTS {
+        tables::store_phy(tables, n, phy.cleared());
+    }
 }
 
-// Reports a phy's four counters, and clears them where the reset byte is 1.
-#[tactic(auto, using(laws::specs::Choice::picks), unfolding(crate::specs::LinkErrors::link_errors))]
-pub fn get_link_errors(tables: &mut [u8], body: &mut [u8]) -> u32
-    requires tables_len { length tables.old ≡ tables_size }
+/// Reports a phy's four counters, and clears them where the reset byte is 1. A refusal leaves
+/// tables and body as they were.
+#[tactic(auto, using(laws::specs::Choice::picks, crate::proofs::Laws::report_by), unfolding(crate::specs::LinkErrors::link_errors))]
+pub fn get_link_errors(tables: &mut [u8; tables::SIZE], body: &mut [u8]) -> Result<(), ReturnCode>
     requires few_phys { FewPhys (tables_of tables.old) }
     requires in_bounds { 20 ≤ length body.old }
-    ensures { leaves result (tables_of tables.new) body.new ≡ link_errors (tables_of tables.old) body.old }
+    ensures { leaves (code_of result) (tables_of tables.new) body.new ≡ link_errors (tables_of tables.old) body.old }
 {
-    if body[codes::RESET_PLACE] <= 1 {
-        if tables::phy_exists(tables, body[0]) {
-            return show_counters(
-                tables,
-                PhyIdentifier(body[0]),
-                body[codes::RESET_PLACE],
-                body,
-            );
-        }
-        return codes::PHY_DOES_NOT_EXIST;
+    let n = PhyIdentifier(body[0]);
+    let reset = body[codes::RESET_PLACE];
+    if reset > 1 {
+        return Err(ReturnCode::InvalidParameter);
     }
-    codes::INVALID_PARAMETER
+    let phy = tables::phy(tables, n).ok_or(ReturnCode::PhyDoesNotExist)?;
+    show_and_reset(tables, n, phy, reset, body);
+    Ok(())
 }

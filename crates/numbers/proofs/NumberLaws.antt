@@ -2,16 +2,16 @@
 use mathlib.Core.Path.{◌≡◌, refl, sym, ◌∙◌, ap}
 use mathlib.Core.Bool.{Bool}
 use mathlib.Core.List.{List, [], ◌∷◌}
-use Prim.Native.Nat.{ℕ, zero, suc, ◌+◌, ◌*◌, ◌/◌, ◌%◌, ◌^◌, ◌<◌, ◌≤◌}
-use native.Mathlib.Nat.{add-zero}
-use native.Mathlib.Numerals.{towards_suc}
+use Prim.Native.Nat.{ℕ, zero, suc, ◌+◌, ◌-◌, ◌*◌, ◌/◌, ◌%◌, ◌^◌, ◌<◌, ◌≤◌}
 use native.Mathlib.Omega.{arith}
 use lib.Dec.{ltb}
-use lib.ListN.{length, get_or, set, get_or-eq_default}
-use lib.Seq.{drop-cons}
+use lib.ListN.{length, get_or, get_or-eq_default}
 use borrow.Author.Tests.{ltb-true, ltb-false}
+use Rattle.std.specs.Int.{w16, w32, from_le_bytes, to_le_bytes}
 use Rattle.laws.specs.Choice.{by_bool}
-use Rattle.laws.specs.Splice.{part, splice, stores, length_part, get_or_part}
+use borrow.Rule.Slice.PartMut.{put_mid}
+use Rattle.laws.specs.Lent.{lent_put}
+use Rattle.laws.specs.Splice.{part, splice, length_part, get_or_part}
 use Rattle.numbers.specs.Number.{bytes, number}
 
 pub length_bytes : (k n : ℕ) → length (bytes k n) ≡ k
@@ -27,36 +27,46 @@ number_bytes (suc k) n h =
     let l : n / 256 < 256 ^ k = omega arith in
     rw (number_bytes k (n / 256) l) (omega arith)
 
--- the number at an index: its lowest byte, and 256 times the number behind that
-number_part : (s : List ℕ) (at k : ℕ) → at < length s → number (part s at (suc k)) ≡ get_or s at 0 + 256 * number (part s (suc at) k)
-unfolding number part
-number_part s at k h = rw (drop-cons s at 0 h)
+-- what std reads little-endian, of two bytes and of four
+from_two : (l : List ℕ) → length l ≡ 2 → from_le_bytes w16 l ≡ number l
+unfolding number
+from_two [] e = absurd (omega arith)
+from_two (a ∷ []) e = absurd (omega arith)
+from_two (a ∷ b ∷ []) e = omega arith
+from_two (a ∷ b ∷ c ∷ l) e = absurd (omega arith)
 
--- the same for two bytes and for four, as code reads them
-pub number_two : (s : List ℕ) (at r : ℕ) → at + 2 ≤ length s → r ≡ get_or s at 0 + 256 * get_or s (at + 1) 0 → r ≡ number (part s at 2)
-unfolding number part
-number_two s at r h e =
-    rw (number_part s at 1 (omega arith), number_part s (suc at) 0 (omega arith), add-zero) (simp towards_suc at e)
+from_four : (l : List ℕ) → length l ≡ 4 → from_le_bytes w32 l ≡ number l
+unfolding number
+from_four [] e = absurd (omega arith)
+from_four (a ∷ []) e = absurd (omega arith)
+from_four (a ∷ b ∷ []) e = absurd (omega arith)
+from_four (a ∷ b ∷ c ∷ []) e = absurd (omega arith)
+from_four (a ∷ b ∷ c ∷ d ∷ []) e = omega arith
+from_four (a ∷ b ∷ c ∷ d ∷ f ∷ l) e = absurd (omega arith)
 
-pub number_four : (s : List ℕ) (at r : ℕ) → at + 4 ≤ length s
-    → r ≡ get_or s at 0 + 256 * (get_or s (at + 1) 0 + 256 * (get_or s (at + 2) 0 + 256 * get_or s (at + 3) 0)) → r ≡ number (part s at 4)
-unfolding number part
-number_four s at r h e =
-    rw (number_part s at 3 (omega arith), number_part s (suc at) 2 (omega arith), number_part s (suc (suc at)) 1 (omega arith), number_part s (suc (suc (suc at))) 0 (omega arith), add-zero)
-    (simp towards_suc at e)
+pub number_two : (s l : List ℕ) (at r : ℕ) → at + 2 ≤ length s → l ≡ part s at 2 → r ≡ from_le_bytes w16 l → r ≡ number (part s at 2)
+number_two s l at r h e q = q ∙ from_two l (ap length e ∙ length_part s at 2 h) ∙ ap number e
 
--- what stores of the bytes leave
-pub bytes_two : (d : List ℕ) (at n : ℕ) → at + 2 ≤ length d → set (set d at (n % 256)) (at + 1) (n / 256 % 256) ≡ splice d at (bytes 2 n)
+pub number_four : (s l : List ℕ) (at r : ℕ) → at + 4 ≤ length s → l ≡ part s at 4 → r ≡ from_le_bytes w32 l → r ≡ number (part s at 4)
+number_four s l at r h e q = q ∙ from_four l (ap length e ∙ length_part s at 4 h) ∙ ap number e
+
+-- and what it writes
+to_two : (n : ℕ) → to_le_bytes w16 n ≡ bytes 2 n
 unfolding bytes
-bytes_two d at n h = simp towards_suc (stores d at (n % 256 ∷ n / 256 % 256 ∷ []) h)
+to_two n = refl
 
-pub bytes_four : (d : List ℕ) (at n : ℕ) → at + 4 ≤ length d
-    → set (set (set (set d at (n % 256)) (at + 1) (n / 256 % 256)) (at + 2) (n / 65536 % 256)) (at + 3) (n / 16777216 % 256) ≡ splice d at (bytes 4 n)
+to_four : (n : ℕ) → to_le_bytes w32 n ≡ bytes 4 n
 unfolding bytes
-bytes_four d at n h =
+to_four n =
     let p : n / 256 / 256 ≡ n / 65536 = omega arith in
     let q : n / 65536 / 256 ≡ n / 16777216 = omega arith in
-    rw (p, q) (simp towards_suc (stores d at (n % 256 ∷ n / 256 % 256 ∷ n / 65536 % 256 ∷ n / 16777216 % 256 ∷ []) h))
+    rw (p, q)
+
+pub put_two : (d l t : List ℕ) (at n : ℕ) → l ≡ to_le_bytes w16 n → t ≡ l → put_mid at (at + 2 - at) d t ≡ splice d at (bytes 2 n)
+put_two d l t at n p q = lent_put d t (bytes 2 n) at 2 (q ∙ p ∙ to_two n) (length_bytes 2 n)
+
+pub put_four : (d l t : List ℕ) (at n : ℕ) → l ≡ to_le_bytes w32 n → t ≡ l → put_mid at (at + 4 - at) d t ≡ splice d at (bytes 4 n)
+put_four d l t at n p q = lent_put d t (bytes 4 n) at 4 (q ∙ p ∙ to_four n) (length_bytes 4 n)
 
 -- ---- bytes read as a number and written back
 

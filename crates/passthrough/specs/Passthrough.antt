@@ -8,8 +8,7 @@ use Rattle.fields.specs.Rules.{is_rate}
 use Rattle.stp.specs.Body.{phy_asked, port_asked, connection_rate, destination_of, fis}
 use Rattle.disk.specs.Disk.{Performed, performed}
 use Rattle.adapter.specs.Adapter.{Adapter, phy_in}
-use Rattle.select.specs.declared.Selection.{Selection}
-use Rattle.select.specs.Select.{select_in}
+use Rattle.select.specs.Select.{Selection, select_in}
 
 -- the return code, the medium and the body that a request leaves
 pub record Passed : Type 0 where

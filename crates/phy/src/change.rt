@@ -1,79 +1,74 @@
-// The changes that a request makes to a phy. Each gives the phy back; what it does not name is carried.
+//! The changes that a request makes to a phy. Each gives the phy back; what it does not name is
+//! carried.
 ghost use Rattle.std.specs.Prelude.{◌≡◌, ◌<◌};
-ghost use Rattle.phy.specs.Change.{stored, released, one_more, cleared, raised, negotiated_as, programmed_as, configured};
+ghost use Rattle.phy.specs.Change.{stored, released, cleared, raised, negotiated_as, programmed_as, configured};
 
 use crate::{CLASS, MAXIMUM, MINIMUM, NEGOTIATED, Phy};
 
 // The fourth counter of 6.9.
 const RESET_PROBLEM: usize = 3;
 
-#[tactic(auto, using(laws::specs::Choice::picks), unfolding(crate::specs::Change::one_more))]
-fn one_more(count: u32) -> u32
-    ensures { result ≡ one_more count }
-{
-    if count == 4294967295 {
-        return count;
-    }
-    count + 1
-}
-
 impl Phy {
     // One byte of the entity replaced.
+    #[tactic(auto, unfolding(crate::specs::Change::stored))]
     fn store(mut self, place: usize, value: u8) -> Phy
         requires { place < 64 }
         ensures { result ≡ stored self place value }
     {
-        let mut entity = self.entity;
-        entity[place] = value;
-        self.entity = entity;
+        self.entity[place] = value;
         self
     }
 
-    // No longer held at spin-up.
-    pub fn released(mut self) -> Phy
+    /// No longer held at spin-up.
+    #[tactic(auto, unfolding(crate::specs::Change::released))]
+    pub fn released(self) -> Phy
         ensures { result ≡ released self }
     {
-        self.spinup_hold = 0;
-        self
+        Phy {
+            spinup_hold: 0,
+            ..self
+        }
     }
 
-    // All four counters at 0.
-    pub fn cleared(mut self) -> Phy
+    /// All four counters at 0.
+    #[tactic(auto, unfolding(crate::specs::Change::cleared))]
+    pub fn cleared(self) -> Phy
         ensures { result ≡ cleared self }
     {
-        let none = [0u32; 4];
-        self.counters = none;
-        self
+        Phy {
+            counters: [0; 4],
+            ..self
+        }
     }
 
-    // One more phy reset problem.
+    /// One more phy reset problem; the counter holds at 4,294,967,295.
+    #[tactic(auto, unfolding(crate::specs::Change::raised, crate::specs::Change::one_more))]
     pub fn raised(mut self) -> Phy
         ensures { result ≡ raised self }
     {
-        let mut counters = self.counters;
-        let problems = one_more(counters[RESET_PROBLEM]);
-        counters[RESET_PROBLEM] = problems;
-        self.counters = counters;
+        self.counters[RESET_PROBLEM] = self.counters[RESET_PROBLEM].saturating_add(1);
         self
     }
 
-    // Another negotiated rate.
+    /// Another negotiated rate.
+    #[tactic(auto, unfolding(crate::specs::Change::negotiated_as))]
     pub fn with_negotiated(self, rate: u8) -> Phy
         ensures { result ≡ negotiated_as self rate }
     {
         self.store(NEGOTIATED, rate)
     }
 
-    // Another programmed rate in the rate byte at a place.
+    // Another programmed rate in the rate byte at a place; the hardware's half is kept.
+    #[tactic(auto, unfolding(crate::specs::Change::programmed_as))]
     fn program(self, place: usize, rate: u8) -> Phy
         requires { (place < 64) × (rate < 16) }
         ensures { result ≡ programmed_as self place rate }
     {
-        let entity = self.entity;
-        self.store(place, 16 * rate + entity[place] % 16)
+        self.store(place, 16 * rate + self.entity[place] % 16)
     }
 
-    // Another signal class, programmed minimum and programmed maximum.
+    /// Another signal class, programmed minimum and programmed maximum.
+    #[tactic(auto, unfolding(crate::specs::Change::configured))]
     pub fn configured(self, class: u8, minimum: u8, maximum: u8) -> Phy
         requires { (minimum < 16) × (maximum < 16) }
         ensures { result ≡ configured self class minimum maximum }

@@ -1,5 +1,5 @@
-// One phy of the adapter (document 01, "Adapter file", as far as one phy goes): what its block holds, its fields by name,
-// and the changes that a request makes to it.
+//! One phy of the adapter (document 01, "Adapter file", as far as one phy goes): what its block
+//! holds, its fields by name, and the changes that a request makes to it.
 #![tactic(auto)]
 
 mod block;
@@ -8,32 +8,42 @@ mod change;
 ghost use Rattle.std.specs.Prelude.{◌≡◌};
 ghost use Rattle.phy.specs.Entity.{port_of, negotiated_of, programmed_minimum, programmed_maximum, no_device, is_sata, attached_is};
 
-// The number of a phy.
-#[derive(Clone, Copy)]
+/// The number of a phy.
+#[derive(Clone, Copy, Debug, PartialEq, Eq, PartialOrd, Ord, Hash)]
 pub struct PhyIdentifier(pub u8);
 
-// The number of a port. It never stands for a phy's.
-#[derive(Clone, Copy)]
+/// The number of a port. It never stands for a phy's.
+#[derive(Clone, Copy, Debug, PartialEq, Eq, PartialOrd, Ord, Hash)]
 pub struct PortIdentifier(pub u8);
 
-// A phy: its PHY_ENTITY (6.7.4.2), its four counters in the order of 6.9, its signature FIS and whether it holds one, whether
-// it is fixed, the lowest and the highest rate of the device attached to it, and whether that device is held at spin-up (W-205).
-#[derive(Clone, Copy)]
+/// A phy. Its last five fields are bytes of a file: no `bool` and no rate, since any value may
+/// stand there until the field rules hold.
+#[derive(Clone, Copy, Debug, PartialEq, Eq)]
 pub struct Phy {
+    /// Its PHY_ENTITY (6.7.4.2).
     pub entity: [u8; 64],
+    /// Its four counters in the order of 6.9; the last one counts phy reset problems.
     pub counters: [u32; 4],
+    /// Its signature FIS, or zeros.
     pub signature: [u8; 20],
+    /// 1 if it holds a signature.
     pub held: u8,
+    /// 1 if it is fixed.
     pub fixed: u8,
+    /// The lowest rate of the attached device, or 0.
     pub lowest: u8,
+    /// The highest rate of the attached device, or 0.
     pub highest: u8,
+    /// 1 if the attached device is held at spin-up (W-205).
     pub spinup_hold: u8,
 }
 
-// How many bytes a phy has, in its block of the adapter file and in the state.
+/// How many bytes a phy has, in its block of the adapter file and in the state.
 pub const SIZE: usize = 105;
 
-// The places of a PHY_ENTITY.
+// The places of a PHY_ENTITY: Identify's phy identifier and signal class, the port identifier, the
+// negotiated, the minimum and the maximum rate; of Attached the device type, the target protocols
+// and the SAS address.
 pub const IDENTIFIER: usize = 20;
 
 pub const CLASS: usize = 21;
@@ -86,8 +96,7 @@ impl Phy {
     pub fn no_device(self) -> bool
         ensures { result ≡ no_device self }
     {
-        let device = self.entity[ATTACHED];
-        device == codes::NO_DEVICE_ATTACHED
+        self.entity[ATTACHED] == codes::NO_DEVICE_ATTACHED
     }
 
     // A SATA device is attached.
@@ -95,15 +104,14 @@ impl Phy {
     pub fn is_sata(self) -> bool
         ensures { result ≡ is_sata self }
     {
-        (self.entity[ATTACHED] == codes::END_DEVICE) & (self.entity[PROTOCOLS] % 2 == 1)
+        self.entity[ATTACHED] == codes::END_DEVICE && self.entity[PROTOCOLS] % 2 == 1
     }
 
     // The attached SAS address is the given one.
-    #[tactic(auto, unfolding(crate::specs::Entity::attached_is, crate::specs::Entity::attached_address, laws::specs::Splice::part))]
+    #[tactic(auto, using(crate::proofs::AddressLaws::same_address), unfolding(crate::specs::Entity::attached_is, crate::specs::Entity::attached_address, laws::specs::Splice::part))]
     pub fn attached_is(self, address: &[u8]) -> bool
         ensures { result ≡ attached_is self address.now }
     {
-        let e = self.entity;
-        wire::same(&e[ADDRESS..ADDRESS + 8], address)
+        &self.entity[ADDRESS..ADDRESS + 8] == address
     }
 }

@@ -4,3 +4,5 @@ pub mod ReadLaws
 pub mod ConversionsLaws
 pub mod SameLaws
 pub mod SeenLaws
+pub mod Chunks
+pub mod EqualLaws

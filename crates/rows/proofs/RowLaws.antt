@@ -1,6 +1,6 @@
 -- What is proved of the definitions in specs/Row.antt. Assumes nothing.
 use mathlib.Core.Path.{◌≡◌}
-use mathlib.Core.Bool.{Bool, true, not, ◌||◌}
+use mathlib.Core.Bool.{true}
 use mathlib.Core.List.{List}
 use Prim.Native.Nat.{ℕ, ◌+◌, ◌-◌, ◌<◌, ◌≤◌}
 use native.Mathlib.Omega.{arith}
@@ -9,13 +9,7 @@ use Rattle.laws.specs.Choice.{both}
 use Rattle.laws.specs.All.{all_by}
 use Rattle.wire.specs.Same.{same_bytes}
 use Rattle.wire.proofs.SameLaws.{same_refl}
-use Rattle.rows.specs.Row.{Row, apart, row_at, row_zero, zero_from, zero_row}
-
--- ---- two rows, compared by both
-
-pub apart_read : (r s : Row) (a b : Bool) → a ≡ same_bytes r.sas s.sas → b ≡ same_bytes r.os s.os → not (a || b) ≡ apart r s
-unfolding apart
-apart_read r s a b p q = rw (p, q)
+use Rattle.rows.specs.Row.{Row, row_at, row_zero, zero_from, zero_row}
 
 -- ---- zero from a on is what it says of each row
 

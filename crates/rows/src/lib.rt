@@ -1,18 +1,82 @@
-// The address rows of an adapter: which SAS address and LUN stands for which host index, path, target and LUN (document 01, "Adapter
-// file", and codes 27 and 28). They are bytes that the caller lends, 20 for each of 64 rows.
+//! The address rows of an adapter: which SAS address and LUN stands for which host index, path,
+//! target and LUN (document 01, "Adapter file", and codes 27 and 28). They are bytes that the caller
+//! lends, 20 for each of 64 rows.
 #![tactic(auto)]
 
 mod hold;
 
-ghost use Rattle.std.specs.Prelude.{◌≡◌, ◌≤◌};
-ghost use Rattle.rows.specs.Row.{row_start};
+ghost use Rattle.std.specs.Prelude.{◌≡◌, ◌<◌, ◌≤◌, length};
+ghost use Rattle.wire.specs.Same.{same_bytes};
+ghost use Rattle.rows.specs.Row.{row_of, rows_of, zero_from};
+ghost use Rattle.rows.specs.Read.{row_held, rows_in};
 
-pub use hold::{rows_hold, zero_from};
+pub use hold::rows_hold;
 
-// Where row i's bytes start: its SAS address and LUN, 16 of them, and behind these its four OS bytes.
-pub fn place(i: usize) -> usize
-    requires { i ≤ 64 }
-    ensures { result ≡ row_start i }
+/// How many bytes all 64 rows have.
+pub const SIZE: usize = 1280;
+
+/// How many bytes a row has.
+pub const ROW_SIZE: usize = 20;
+
+/// Which SAS address and LUN stands for which host index, path, target and LUN.
+#[derive(Clone, Copy, Debug, PartialEq, Eq)]
+pub struct Row {
+    /// The SAS address, and behind it the SAS LUN.
+    pub sas: [u8; 16],
+    /// The OS bytes: host index, path, target and LUN.
+    pub os: [u8; 4],
+}
+
+impl Row {
+    /// The row that stands in 20 bytes.
+    #[tactic(auto, unfolding(crate::specs::Row::row_of, laws::specs::Splice::part))]
+    pub fn from_bytes(bytes: &[u8; ROW_SIZE]) -> Row
+        ensures { row_held result ≡ row_of bytes.now 0 }
+    {
+        Row {
+            sas: bytes[0..16].try_into().unwrap(),
+            os: bytes[16..20].try_into().unwrap(),
+        }
+    }
+
+    /// Whether the row has this SAS address and LUN.
+    pub fn has_sas(&self, sas: &[u8; 16]) -> bool
+        ensures { result ≡ same_bytes self.now.sas sas.now }
+    {
+        same::<16, 7>(&self.sas, sas)
+    }
+
+    /// Whether the row has these four OS bytes.
+    pub fn has_os(&self, os: &[u8; 4]) -> bool
+        ensures { result ≡ same_bytes self.now.os os.now }
+    {
+        same::<4, 2>(&self.os, os)
+    }
+}
+
+// Byte `FIRST`, which seldom is the same, is compared first: the last of a SAS address, and an OS
+// address's target.
+#[tactic(auto, using(crate::proofs::EqualLaws::same_pointwise, crate::proofs::EqualLaws::byte_differs))]
+fn same<const N: usize, const FIRST: usize>(a: &[u8; N], b: &[u8; N]) -> bool
+    requires { FIRST < N }
+    ensures { result ≡ same_bytes a.now b.now }
 {
-    20 * i
+    a[FIRST] == b[FIRST] && a == b
+}
+
+/// The rows, 20 bytes each.
+pub fn as_rows(rows: &[u8; SIZE]) -> &[[u8; ROW_SIZE]]
+    ensures rows { rows_in result.now ≡ rows_of rows.now }
+    ensures len { length result.now ≡ 64 }
+{
+    rows.as_chunks().0
+}
+
+/// The rows from a on are zero: one test of their bytes.
+#[tactic(auto, using(crate::proofs::ReadLaws::rows_past))]
+pub fn zero_from(rows: &[u8; SIZE], a: usize) -> bool
+    requires { a ≤ 64 }
+    ensures { result ≡ zero_from (rows_of rows.now) a }
+{
+    wire::zero_at(rows, ROW_SIZE * a, ROW_SIZE * (64 - a))
 }

@@ -1,11 +1,11 @@
 -- What is proved of the definitions in specs/Past.antt. Assumes nothing.
-use mathlib.Core.Path.{◌≡◌, sym, ◌∙◌, ap}
+use mathlib.Core.Path.{◌≡◌, refl, sym, ◌∙◌, ap}
 use mathlib.Core.Bool.{Bool, ◌&&◌}
 use mathlib.Core.List.{List}
 use Prim.Native.Nat.{ℕ, ◌+◌, ◌-◌, ◌*◌, ◌<◌, ◌≤◌}
 use native.Mathlib.Omega.{arith}
 use lib.Dec.{eqb}
-use lib.ListN.{length, get_or, take, drop}
+use lib.ListN.{length, get_or}
 use Rattle.laws.specs.All.{all_to}
 use Rattle.laws.specs.Splice.{part, part_all, length_part}
 use Rattle.wire.specs.Same.{all_zero}
@@ -14,7 +14,7 @@ use Rattle.phy.specs.Block.{phy_size, counters_at, phy_of}
 use Rattle.fields.specs.Rules.{phy_zero}
 use Rattle.rows.specs.Row.{zero_from, rows_of, rows_size}
 use Rattle.connectors.specs.Connector.{connectors_size, connectors_of, connectors_past}
-use Rattle.adapter.specs.Adapter.{Adapter, phy_in, zero_past}
+use Rattle.adapter.specs.Adapter.{phy_in, zero_past}
 use Rattle.tables.specs.Tables.{tables_size, phy_start, rows_start, connectors_start, phy_at, tables_of}
 use Rattle.tables.proofs.Laws.{phy_in_lem, rows_in, connectors_in}
 use Rattle.rules.specs.Past.{phys_past}
@@ -65,18 +65,9 @@ phys_past_lem t p r n h q =
     q
     ∙ zero_run (λ (i : ℕ). phy_zero (phy_in (tables_of t) (p + i))) t (phy_start p) phy_size (32 - p) (omega arith) (λ i l. one_phy t p i n (omega arith))
 
-pub rows_past_lent : (t : List ℕ) (a : ℕ) (r : Bool) → r ≡ zero_from (rows_of (take rows_size (drop rows_start t))) a → r ≡ zero_from (tables_of t).rows a
-unfolding part
-rows_past_lent t a r q = q ∙ rw (rows_in t)
-
--- any test of the connectors, of their part of the tables
-pub connectors_lent : (test : List (List ℕ) → ℕ → Bool) (t : List ℕ) (p : ℕ) (r : Bool) → r ≡ test (connectors_of (take connectors_size (drop connectors_start t))) p
-    → r ≡ test (tables_of t).connectors p
-unfolding part
-connectors_lent test t p r q = q ∙ rw (connectors_in t)
-
--- all three
-pub past_by : (ad : Adapter) (p a : ℕ) (r s c : Bool) → p ≡ ad.phy_count → a ≡ ad.row_count → r ≡ phys_past ad.phys p
-    → s ≡ zero_from ad.rows a → c ≡ connectors_past ad.connectors p → r && s && c ≡ zero_past ad
+-- all three, where the rows and the connectors are their parts of the tables
+pub past_by : (t rows connectors : List ℕ) (p a : ℕ) (r s c : Bool) → p ≡ (tables_of t).phy_count → a ≡ (tables_of t).row_count
+    → rows ≡ part t rows_start rows_size → connectors ≡ part t connectors_start connectors_size → r ≡ phys_past (tables_of t).phys p
+    → s ≡ zero_from (rows_of rows) a → c ≡ connectors_past (connectors_of connectors) p → r && s && c ≡ zero_past (tables_of t)
 unfolding zero_past phys_past
-past_by ad p a r s c e f q k l = rw (q, k, l, e, f)
+past_by t rows connectors p a r s c e f x y q k l = rw (q, k, l, e, f, x, y, rows_in t, connectors_in t) refl

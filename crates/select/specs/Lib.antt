@@ -1,2 +1,2 @@
 pub mod Select
-pub mod Past
+pub mod Chosen

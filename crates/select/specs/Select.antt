@@ -7,7 +7,6 @@ use Rattle.phy.specs.declared.PhyIdentifier.{PhyIdentifier}
 use Rattle.phy.specs.declared.PortIdentifier.{PortIdentifier}
 use Rattle.phy.specs.Entity.{port_of}
 use Rattle.adapter.specs.Adapter.{Adapter, phy_in}
-use Rattle.select.specs.declared.Selection.{Selection}
 
 -- FFh stands for a phy or a port that is not given
 unfoldable pub phy_given : PhyIdentifier → Bool
@@ -15,6 +14,11 @@ phy_given phy = not (eqb phy.0 0xff)
 
 unfoldable pub port_given : PortIdentifier → Bool
 port_given port = not (eqb port.0 0xff)
+
+-- the phy that was selected, where code is 0
+pub record Selection : Type 0 where
+  pub code : ℕ
+  pub phy : PhyIdentifier
 
 -- a phy was selected; none was, and the code that says why
 abbrev pub selected : PhyIdentifier → Selection

@@ -1,9 +1,15 @@
 -- What the proofs of this crate cite. Assumes nothing.
-use mathlib.Core.Path.{◌≡◌, ap}
+use mathlib.Core.Path.{◌≡◌, sym, ◌∙◌, ap}
 use mathlib.Core.List.{List}
 use Prim.Native.Nat.{ℕ, ◌+◌, ◌≤◌}
 use native.Mathlib.Nat.{le_trans, le-add_right}
+use Rattle.std.proofs.Common.{Result, Ok}
 use Rattle.codes.specs.Codes.{stp_passthru, firmware_download}
+use Rattle.codes.specs.Numbers.{control_number, control_code_of}
+use Rattle.codes.specs.declared.control_code.ControlCode.{ControlCode}
+use Rattle.codes.specs.declared.control_code.ControlCode.TheVariants.{FirmwareDownload, StpPassthru}
+use Rattle.codes.specs.declared.control_code.UnknownControlCode.{UnknownControlCode}
+use Rattle.control_codes.proofs.KnownLaws.{number_ok}
 use Rattle.stp.specs.Body.{data_length}
 use Rattle.download.specs.Body.{buffer_length}
 use Rattle.control_codes.specs.Table.{structure_size, data_size}
@@ -31,6 +37,16 @@ passthrough_lent control n body e h = rw e at h
 pub download_lent : (control n : ℕ) (body : List ℕ) → control ≡ firmware_download → structure_size control + data_size control body ≤ n → 44 + buffer_length body ≤ n
 unfolding structure_size data_size
 download_lent control n body e h = rw e at h
+
+-- the same of a number that was found to be that code
+module _ (control n : ℕ) (body : List ℕ) (r : Result ControlCode UnknownControlCode) (p : r ≡ control_code_of control) (code : ControlCode) (q : r ≡ Ok code)
+    (h : structure_size control + data_size control body ≤ n)
+  where
+    pub passthrough_asked : code ≡ StpPassthru → 136 + data_length body ≤ n
+    passthrough_asked e = passthrough_lent control n body (sym (number_ok control r p code q) ∙ ap control_number e) h
+
+    pub download_asked : code ≡ FirmwareDownload → 44 + buffer_length body ≤ n
+    download_asked e = download_lent control n body (sym (number_ok control r p code q) ∙ ap control_number e) h
 
 -- ---- what a call left
 

@@ -91,10 +91,10 @@ module _ (kind : Kind) (s : State) (medium stage buffer : List ℕ) (number call
         rw (o, q, ne_eqb call 0 h) refl
 
 -- what an answered request and its line leave
-pub replied_left : (r : Request) (p : Point) (o : Outcome) (code : ℕ) (buffer line : List ℕ) → outcome 0 p buffer ≡ o → code ≡ return_code (form_of r) buffer
-    → line ≡ bytes 4 0 ++ bytes 4 code → records p buffer line ≡ after_request r o
+pub replied_left : (r : Request) (p : Point) (o : Outcome) (code n : ℕ) (buffer line : List ℕ) → outcome 0 p buffer ≡ o → code ≡ return_code (form_of r) buffer
+    → n ≡ code → line ≡ bytes 4 0 ++ bytes 4 n → records p buffer line ≡ after_request r o
 unfolding code_of
-replied_left r p o code buffer line e c q = rw (q, c) (ap (λ (x : Outcome). after_request r x) e)
+replied_left r p o code n buffer line e c m q = rw (q, m, c) (ap (λ (x : Outcome). after_request r x) e)
 
 -- the same behind its prefix
 pub framed_left : (f : Framing) (kind : Kind) (x : Prefix) (before : ℕ) (p q : Point) (request buffer line : List ℕ)

@@ -4,7 +4,7 @@
 ghost use Rattle.std.specs.Prelude.{◌≡◌, true, ◌++◌, ◌+◌, ◌/◌, ◌≤◌, length};
 ghost use Rattle.wire.specs.Number.{bytes};
 ghost use Rattle.adapter.specs.Adapter.{medium_size};
-ghost use Rattle.state.specs.State.{state_size, state_of, state_holds};
+ghost use Rattle.state.specs.State.{state_of, state_holds};
 ghost use Rattle.header.specs.Sent.{sent, form_by};
 ghost use Rattle.firmware.specs.Firmware.{stage_size};
 ghost use Rattle.service.specs.Serve.{store_of};
@@ -27,13 +27,12 @@ fn write_line(line: &mut [u8], call: u32, code: u32)
 // Handles a request that passed the checks of the call, and writes its line.
 fn record_reply(
     kind: Kind,
-    state: &mut [u8],
+    state: &mut [u8; dispatch::SIZE],
     medium: &mut [u8],
     stage: &mut [u8],
     buffer: &mut [u8],
     line: &mut [u8],
 )
-    requires state_len { length state.old ≡ state_size }
     requires state_value { state_holds (state_of state.old) ≡ true }
     requires medium_len { length medium.old ≡ medium_size (state_of state.old).adapter }
     requires stage_len { length stage.old ≡ stage_size }
@@ -43,8 +42,8 @@ fn record_reply(
         ≡ after_request (sent kind buffer.old)
         (answered_at (point (state_of state.old) (store_of medium.old stage.old)) (sent kind buffer.old)) }
 {
-    let code = dispatch::reply(kind, state, medium, stage, buffer);
-    write_line(line, 0, code);
+    let answer = dispatch::reply(kind, state, medium, stage, buffer);
+    write_line(line, 0, codes::answer_code(answer));
 }
 
 // Handles a request, and writes its line. `number` is that of the state, the medium and the stage.
@@ -52,13 +51,12 @@ fn record_reply(
 fn record_request(
     kind: Kind,
     number: u32,
-    state: &mut [u8],
+    state: &mut [u8; dispatch::SIZE],
     medium: &mut [u8],
     stage: &mut [u8],
     buffer: &mut [u8],
     line: &mut [u8],
 )
-    requires state_len { length state.old ≡ state_size }
     requires number_value { number ≡ state_number (state_of state.old) (length medium.old) (length stage.old) }
     requires line_len { length line.old ≡ 8 }
     ensures { records (point (state_of state.new) (store_of medium.new stage.new)) buffer.new line.new
@@ -67,22 +65,22 @@ fn record_request(
 {
     let call = dispatch::buffer_number(kind, number, buffer.len());
     if call == 0 {
-        return record_reply(kind, state, medium, stage, buffer, line);
+        record_reply(kind, state, medium, stage, buffer, line);
+    } else {
+        write_line(line, call, tally::NO_CODE);
     }
-    write_line(line, call, tally::NO_CODE)
 }
 
 // The same of a request behind its prefix.
 fn record_framed(
     framing: Framing,
     number: u32,
-    state: &mut [u8],
+    state: &mut [u8; dispatch::SIZE],
     medium: &mut [u8],
     stage: &mut [u8],
     request: &mut [u8],
     line: &mut [u8],
 )
-    requires state_len { length state.old ≡ state_size }
     requires number_value { number ≡ state_number (state_of state.old) (length medium.old) (length stage.old) }
     requires framing_in_bounds { prefix_size framing ≤ length request.old }
     requires line_len { length line.old ≡ 8 }
@@ -107,14 +105,13 @@ fn record_first(
     framing: Framing,
     size: usize,
     number: u32,
-    state: &mut [u8],
+    state: &mut [u8; dispatch::SIZE],
     medium: &mut [u8],
     stage: &mut [u8],
     session: &mut [u8],
     lines: &mut [u8],
 )
     requires framing_bound { (prefix_size framing ≤ size) × (size ≤ length session.old) }
-    requires state_len { length state.old ≡ state_size }
     requires number_value { number ≡ state_number (state_of state.old) (length medium.old) (length stage.old) }
     requires in_bounds { 8 ≤ length lines.old }
     ensures { records (point (state_of state.new) (store_of medium.new stage.new)) session.new lines.new
@@ -136,7 +133,7 @@ fn record_at(
     framing: Framing,
     size: usize,
     number: u32,
-    state: &mut [u8],
+    state: &mut [u8; dispatch::SIZE],
     medium: &mut [u8],
     stage: &mut [u8],
     session: &mut [u8],
@@ -145,7 +142,6 @@ fn record_at(
     line: usize,
 )
     requires framing_bound { (prefix_size framing ≤ size) × (at + size ≤ length session.old) }
-    requires state_len { length state.old ≡ state_size }
     requires number_value { number ≡ state_number (state_of state.old) (length medium.old) (length stage.old) }
     requires line_in_bounds { line + 8 ≤ length lines.old }
     ensures { records (point (state_of state.new) (store_of medium.new stage.new)) session.new lines.new
@@ -168,26 +164,24 @@ fn record_at(
 #[tactic(auto, using(crate::proofs::RunLaws::run_ends, frames::proofs::FramesLaws::first_prefix, crate::proofs::RunLaws::rest_up, crate::proofs::RunLaws::run_goes_on, crate::proofs::StateLaws::number_next, crate::proofs::RunLaws::run_full))]
 fn run(
     framing: Framing,
-    state: &mut [u8],
+    state: &mut [u8; dispatch::SIZE],
     medium: &mut [u8],
     stage: &mut [u8],
     session: &mut [u8],
     lines: &mut [u8],
 ) -> usize
-    requires { length state.old ≡ state_size }
     ensures { ran result (store_of medium.new stage.new) session.new lines.new
         ≡ ran_from framing (length lines.old / 8) (point (state_of state.old) (store_of medium.old stage.old))
         session.old lines.old }
 {
-    let number = dispatch::state_number(state, medium.len(), stage.len());
+    let number = codes::call_number(dispatch::check_state(state, medium.len(), stage.len()));
     let mut at = 0;
     let mut count = 0;
     let room = lines.len() / 8;
     while count < room {
-        let size = frames::first_size(framing, &session[at..]);
-        if size == 0 {
+        let Some(size) = frames::first_size(framing, &session[at..]) else {
             return count;
-        }
+        };
         let line = 8 * count;
         count += 1;
         record_at(
@@ -212,6 +206,7 @@ pub fn open_and_run(
         ≡ session_run framing text.now file.now (store_of medium.old stage.old) session.old lines.old }
 {
     let mut state = [0u8; dispatch::SIZE];
-    dispatch::open(text, file, medium, &mut state);
+    // a refused opening leaves the zero state, which each request is refused with
+    let _ = dispatch::open(text, file, medium, &mut state);
     run(framing, &mut state, medium, stage, session, lines)
 }

@@ -1,8 +1,7 @@
 -- What the program's line of a request shows beside its number (document 01, "Starred cases", its last paragraphs). Assumes nothing.
 use Rattle.std.specs.Prelude.{◌≡◌, cond, List, ℕ, eqb, leb, length}
 use Rattle.tally.specs.declared.Line.{Line}
-use Rattle.tally.specs.declared.Taken.{Taken}
-use Rattle.tally.specs.declared.Taken.TheVariants.{Handled}
+use Rattle.tally.specs.Taken.{Taken, Handled}
 use Rattle.tally.specs.Kinds.{no_code}
 use Rattle.header.specs.declared.Kind.TheVariants.{Srb}
 use Rattle.header.specs.Form.{srb, return_code}

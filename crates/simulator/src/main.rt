@@ -8,6 +8,7 @@ mod session;
 
 ghost use Rattle.std.specs.Prelude.{◌≤◌, length};
 
+use codes::CallError;
 use print::{say_open, say_title, say_totals};
 use reading::read_full;
 use session::run;
@@ -38,13 +39,13 @@ fn read_file<F: Files>(files: &F, path: &str, buf: &mut [u8]) -> usize
 fn simulate<P: Print, I: Read>(rt: &P, input: &mut I, text: &[u8], file: &[u8], medium: &mut [u8]) {
     let mut state = [0u8; dispatch::SIZE];
     let mut stage = [0u8; dispatch::STAGE_SIZE];
-    let call = dispatch::open(text, file, medium, &mut state);
-    if call == 0 {
-        say_title(rt);
-        say_totals(rt, run(rt, input, &mut state, medium, &mut stage));
-        return;
+    match dispatch::open(text, file, medium, &mut state) {
+        Ok(()) => {
+            say_title(rt);
+            say_totals(rt, run(rt, input, &mut state, medium, &mut stage));
+        }
+        Err(error) => say_open(rt, error),
     }
-    say_open(rt, call);
 }
 
 // The disks of p phys.
@@ -52,25 +53,18 @@ fn with_disks<P: Print, I: Read>(rt: &P, input: &mut I, text: &[u8], file: &[u8]
     requires { p ≤ 7 }
 {
     let mut medium = [0u8; 57344];
-    let size = 8192 * p as usize;
-    simulate(rt, input, text, file, &mut medium[0..size]);
+    let size = 8192 * usize::from(p);
+    simulate(rt, input, text, file, &mut medium[..size]);
 }
 
-// Byte 0 of the file, which is its phy count.
-fn phy_count(file: &[u8]) -> u8 {
-    if file.len() == 0 {
-        return 0;
-    }
-    file[0]
-}
-
+// Byte 0 of the file is its phy count.
 fn start<P: Print, I: Read>(rt: &P, input: &mut I, text: &[u8], file: &[u8]) {
-    let p = phy_count(file);
-    if PHY_LIMIT < p {
-        say_open(rt, codes::BAD_FIELD);
-        return;
+    let p = file.first().copied().unwrap_or(0);
+    if p > PHY_LIMIT {
+        say_open(rt, CallError::BadField);
+    } else {
+        with_disks(rt, input, text, file, p);
     }
-    with_disks(rt, input, text, file, p);
 }
 
 fn main(rt: HostRuntime) {
@@ -78,5 +72,5 @@ fn main(rt: HostRuntime) {
     let mut file = [0u8; FILE_LIMIT];
     let t = read_file(&rt, "level.txt", &mut text);
     let f = read_file(&rt, "adapter.bin", &mut file);
-    start(&rt, &mut rt.stdin(), &text[0..t], &file[0..f]);
+    start(&rt, &mut rt.stdin(), &text[..t], &file[..f]);
 }

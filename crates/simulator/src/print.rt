@@ -1,8 +1,10 @@
 // What the program prints, a line at a time. A line that cannot be written is lost, and the session goes on.
-use tally::{Line, Taken, Totals};
+use codes::CallError;
+use tally::{Cut, Taken, Totals};
 
 // A refused opening.
-pub fn say_open<P: Print>(rt: &P, call: u32) {
+pub fn say_open<P: Print>(rt: &P, error: CallError) {
+    let call = u32::from(error);
     let _ = println!(rt; "open {call}");
 }
 
@@ -10,32 +12,20 @@ pub fn say_title<P: Print>(rt: &P) {
     let _ = println!(rt; "request call code");
 }
 
-// A request's number, the call's number, and the return code, or `-` where none was written.
-fn say_line<P: Print>(rt: &P, number: u64, line: Line) {
-    let call = line.call;
-    let code = line.code;
-    if call == 0 {
-        let _ = println!(rt; "{number} {call} {code}");
-        return;
-    }
-    let _ = println!(rt; "{number} {call} -");
-}
-
 // What was taken from the session, request `number` if it is one.
 pub fn say_taken<P: Print>(rt: &P, number: u64, taken: Taken) {
     match taken {
-        Taken::Handled(line) => say_line(rt, number, line),
-        Taken::Cut => {
+        Ok(Some(line)) => {
+            let _ = println!(rt; "{number} {line}");
+        }
+        Ok(None) => {}
+        Err(Cut) => {
             let _ = println!(rt; "cut");
         }
-        Taken::End => {}
     }
 }
 
-// The last line: requests, granted, denied, otherwise refused, 100s.
+// The last line.
 pub fn say_totals<P: Print>(rt: &P, totals: Totals) {
-    let _ = println!(rt;
-        "total {} {} {} {} {}",
-        totals.requests, totals.granted, totals.denied, totals.otherwise, totals.short
-    );
+    let _ = println!(rt; "total {totals}");
 }

@@ -3,21 +3,14 @@ ghost use Rattle.std.specs.Prelude.{◌≡◌, ◌<◌, ◌≤◌, length};
 ghost use Rattle.header.specs.declared.Kind.TheVariants.{Srb};
 ghost use Rattle.service.specs.Serve.{store_of};
 ghost use Rattle.dispatch.specs.Request.{RequestCall};
-ghost use Rattle.tally.specs.declared.Taken.TheVariants.{Cut, End};
+ghost use Rattle.tally.specs.Taken.{taken_of, Cut as WasCut, End};
 ghost use Rattle.tally.specs.Totals.{after, Sums};
 ghost use Rattle.simulator.specs.Line.{code_in, HandledBy};
 
 use crate::print::say_taken;
 use reading::read_full;
 use std::io::Read;
-use tally::{Line, Taken, Totals};
-
-// What was taken from the session, and the totals after it.
-#[derive(Clone, Copy)]
-pub struct Step {
-    pub taken: Taken,
-    pub totals: Totals,
-}
+use tally::{Cut, Line, Taken, Totals};
 
 // The longest request.
 const REQUEST_LIMIT: u32 = 32768;
@@ -32,12 +25,11 @@ const RETURN_CODE: usize = 20;
 fn code_of(call: u32, buffer: &[u8]) -> u32
     ensures { result ≡ code_in call buffer.now }
 {
-    if call == 0 {
-        if HEADER_SIZE <= buffer.len() {
-            return wire::read32(buffer, RETURN_CODE);
-        }
+    if call == 0 && HEADER_SIZE <= buffer.len() {
+        wire::read32(buffer, RETURN_CODE)
+    } else {
+        tally::NO_CODE
     }
-    tally::NO_CODE
 }
 
 // Handles the request whose bytes are in buffer, and gives its line.
@@ -46,12 +38,9 @@ fn handle(state: &mut [u8], medium: &mut [u8], stage: &mut [u8], buffer: &mut [u
         state.new (store_of medium.new stage.new) buffer.new }
     ensures code_value { result.code ≡ code_in result.call buffer.new }
 {
-    let call = dispatch::request(state, medium, stage, buffer);
+    let call = codes::call_number(dispatch::request(state, medium, stage, buffer));
     let code = code_of(call, buffer);
-    Line {
-        call: call,
-        code: code,
-    }
+    Line { call, code }
 }
 
 // A request of which n bytes were read into buffer. Input that ends within it cuts the session.
@@ -63,16 +52,17 @@ fn filled(
     buffer: &mut [u8],
     n: usize,
 ) -> Taken
-    ensures value { n < length buffer.old → result ≡ Cut }
-    ensures handled_by { length buffer.old ≤ n → HandledBy result state.old (store_of medium.old stage.old) buffer.old
+    ensures value { n < length buffer.old → taken_of result ≡ WasCut }
+    ensures handled_by { length buffer.old ≤ n → HandledBy (taken_of result) state.old (store_of medium.old stage.old) buffer.old
         state.new (store_of medium.new stage.new) buffer.new }
 {
     if n < buffer.len() {
-        return Taken::Cut;
+        return Err(Cut);
     }
-    Taken::Handled(handle(state, medium, stage, buffer))
+    Ok(Some(handle(state, medium, stage, buffer)))
 }
 
+// In a function of its own, beside the array of 32,768 bytes, so that no goal of the others lists its cells.
 fn read_request<I: Read>(
     input: &mut I,
     state: &mut [u8],
@@ -84,19 +74,6 @@ fn read_request<I: Read>(
     filled(state, medium, stage, buffer, n)
 }
 
-fn take_request<I: Read>(
-    input: &mut I,
-    state: &mut [u8],
-    medium: &mut [u8],
-    stage: &mut [u8],
-    size: usize,
-) -> Taken
-    requires { size ≤ 32768 }
-{
-    let mut buffer = [0u8; 32768];
-    read_request(input, state, medium, stage, &mut buffer[0..size])
-}
-
 // A length that was read whole. A request that is too long cuts the session.
 fn sized<I: Read>(
     input: &mut I,
@@ -105,12 +82,13 @@ fn sized<I: Read>(
     stage: &mut [u8],
     size: u32,
 ) -> Taken
-    ensures { 32768 < size → result ≡ Cut }
+    ensures { 32768 < size → taken_of result ≡ WasCut }
 {
-    if REQUEST_LIMIT < size {
-        return Taken::Cut;
+    if size > REQUEST_LIMIT {
+        return Err(Cut);
     }
-    take_request(input, state, medium, stage, size as usize)
+    let mut buffer = [0u8; REQUEST_LIMIT as usize];
+    read_request(input, state, medium, stage, &mut buffer[..size as usize])
 }
 
 // A length of which n bytes were read.
@@ -122,16 +100,14 @@ fn measured<I: Read>(
     n: usize,
     size: u32,
 ) -> Taken
-    ensures value { n ≡ 0 → result ≡ End }
-    ensures value_2 { 0 < n → n < 4 → result ≡ Cut }
+    ensures value { n ≡ 0 → taken_of result ≡ End }
+    ensures value_2 { 0 < n → n < 4 → taken_of result ≡ WasCut }
 {
-    if n == 0 {
-        return Taken::End;
+    match n {
+        0 => Ok(None),
+        1..=3 => Err(Cut),
+        _ => sized(input, state, medium, stage, size),
     }
-    if n < 4 {
-        return Taken::Cut;
-    }
-    sized(input, state, medium, stage, size)
 }
 
 fn next_request<I: Read>(
@@ -142,34 +118,30 @@ fn next_request<I: Read>(
 ) -> Taken {
     let mut length = [0u8; 4];
     let n = read_full(input, &mut length);
-    measured(input, state, medium, stage, n, wire::read32(&length, 0))
+    measured(input, state, medium, stage, n, u32::from_le_bytes(length))
 }
 
-// Reads on, prints what was taken, and counts it. Requests are numbered from 1, as they are counted.
+// Reads on, prints what was taken, request `number` if it is one, and counts it.
 fn take_next<P: Print, I: Read>(
     rt: &P,
     input: &mut I,
-    totals: Totals,
+    number: u64,
+    totals: &mut Totals,
     state: &mut [u8],
     medium: &mut [u8],
     stage: &mut [u8],
-) -> Step
-    requires sums { Sums totals }
-    requires requests_bound { totals.requests < 18446744073709551615 }
-    ensures { result.totals ≡ after totals result.taken }
+) -> Taken
+    requires requests_bound { totals.old.requests < 18446744073709551615 }
+    ensures { totals.new ≡ after totals.old (taken_of result) }
 {
     let taken = next_request(input, state, medium, stage);
-    say_taken(rt, totals.requests + 1, taken);
-    let counted = tally::after(totals, taken);
-    Step {
-        taken: taken,
-        totals: counted,
-    }
+    say_taken(rt, number, taken);
+    *totals = totals.after(taken);
+    taken
 }
 
-// The totals of the session. A proved loop has to end, and nothing says that the input does, so it stops at a number of requests that no
-// session reaches. No total can overflow: each is at most the number of requests, and that is below the loop's bound.
-#[tactic(auto, using(crate::proofs::SessionLaws::loop_none, crate::proofs::SessionLaws::loop_less))]
+// The totals of the session, whose requests are numbered from 1. A proved loop has to end, and nothing says that the input does, so it stops at a number of
+// requests that no session reaches.
 pub fn run<P: Print, I: Read>(
     rt: &P,
     input: &mut I,
@@ -179,11 +151,9 @@ pub fn run<P: Print, I: Read>(
 ) -> Totals
     ensures { Sums result }
 {
-    let mut totals = tally::none();
-    while totals.requests < 18446744073709551615 {
-        let next = take_next(rt, input, totals, state, medium, stage);
-        let taken = next.taken;
-        totals = next.totals;
+    let mut totals = Totals::none();
+    for number in 1..=u64::MAX {
+        let taken = take_next(rt, input, number, &mut totals, state, medium, stage);
         if tally::is_last(taken) {
             return totals;
         }

@@ -1,12 +1,13 @@
 -- What the stores of this crate do to the tables. Assumes nothing.
-use mathlib.Core.Path.{◌≡◌, sym, ◌∙◌, ap, ap₂}
-use mathlib.Core.List.{List, [], ◌∷◌}
+use mathlib.Core.Path.{◌≡◌, refl, sym, ◌∙◌, ap, ap₂}
+use mathlib.Core.List.{List, [], ◌∷◌, append_assoc}
 use Prim.Native.Nat.{ℕ, ◌+◌, ◌<◌, ◌≤◌}
 use native.Mathlib.Omega.{arith}
-use lib.ListN.{length, get_or, set, replicate}
+use lib.ListN.{length, get_or, set, take, drop}
+use Rattle.std.specs.List.{copy_within}
 use Rattle.laws.specs.Clear.{zeros}
 use Rattle.laws.specs.Fill.{list_to_same}
-use Rattle.laws.specs.Splice.{part, splice, length_part, length_splice, part_splice, part_below, part_above, part_inside, get_one, get_in, stores, splice_all}
+use Rattle.laws.specs.Splice.{part, splice, length_part, length_splice, part_splice, part_below, part_above, part_inside, get_one, get_in, stores}
 use Rattle.phy.specs.Block.{phy_size, phy_of}
 use Rattle.rows.specs.Row.{rows_size}
 use Rattle.connectors.specs.Connector.{connectors_size}
@@ -66,13 +67,12 @@ module _ (t v : List ℕ) (size : length t ≡ tables_size) (e : length v ≡ 8)
       firmware_stored t noted (λ i n h. noted_under i n (omega arith)) (λ i n k h. noted_under i n h)
       ∙ ap₂ (with_firmware (tables_of t)) (noted_under controller_start 176 (omega arith) ∙ sym (controller_in t)) noted_staged
 
-pub image_noted : (t s x : List ℕ) (at : ℕ) → length t ≡ tables_size → at + 8 ≤ length s → x ≡ splice t (staged_start + 1) (part s at 8)
-    → tables_of (set x staged_start 1) ≡ with_staged (tables_of t) (image_staged (part s at 8))
-image_noted t s x at size h e =
-    let l : length (part s at 8) ≡ 8 = length_part s at 8 h in
+pub image_noted : (t v x : List ℕ) → length t ≡ tables_size → length v ≡ 8 → x ≡ splice t (staged_start + 1) v
+    → tables_of (set x staged_start 1) ≡ with_staged (tables_of t) (image_staged v)
+image_noted t v x size l e =
     ap (λ (y : List ℕ). tables_of (set y staged_start 1)) e
-    ∙ ap tables_of (stores (splice t (staged_start + 1) (part s at 8)) staged_start (1 ∷ []) (omega (arith, written_long t (part s at 8) size l)))
-    ∙ noted_tables t (part s at 8) size l
+    ∙ ap tables_of (stores (splice t (staged_start + 1) v) staged_start (1 ∷ []) (omega (arith, written_long t v size l)))
+    ∙ noted_tables t v size l
 
 -- ---- the staged revisions become the running ones
 
@@ -114,9 +114,14 @@ module _ (t : List ℕ) (size : length t ≡ tables_size) where
       firmware_stored t current current_low current_between
       ∙ ap₂ (with_firmware (tables_of t)) (current_controller ∙ rw (controller_in t, staged_in t)) current_staged
 
--- through an array
-pub current_made : (t b x y : List ℕ) → length t ≡ tables_size → b ≡ splice (replicate 8 0) 0 (part t (staged_start + 1) 8)
-    → x ≡ splice t (controller_start + revisions_place) b → y ≡ splice x staged_start (zeros 9) → tables_of y ≡ made_current (tables_of t)
-current_made t b x y size p q r =
-    let e : b ≡ revisions t size = splice_all (replicate 8 0) (revisions t size) b (revisions_long t size) p in
-    ap tables_of (r ∙ rw (q, e)) ∙ current_tables t size
+-- as std moves them
+moved_part : (t : List ℕ) → length t ≡ tables_size → copy_within t (staged_start + 1) tables_size (controller_start + revisions_place) ≡ splice t (controller_start + revisions_place) (part t (staged_start + 1) 8)
+unfolding part splice
+moved_part t size =
+    rw (length_part t (staged_start + 1) 8 (omega arith)) (append_assoc (take (controller_start + revisions_place) t) (part t (staged_start + 1) 8) (drop (controller_start + revisions_place + 8) t))
+
+pub current_made : (t x y : List ℕ) → y ≡ splice x staged_start (zeros 9) → x ≡ copy_within t (staged_start + 1) tables_size (controller_start + revisions_place)
+    → length t ≡ tables_size → tables_of y ≡ made_current (tables_of t)
+current_made t x y r q size =
+    let moved : copy_within t (staged_start + 1) tables_size (controller_start + revisions_place) ≡ running t size = moved_part t size in
+    ap tables_of (r ∙ rw (q, moved) refl) ∙ current_tables t size

@@ -2,7 +2,7 @@
 use Rattle.std.specs.Prelude.{◌≡◌, cond, List, ℕ, eqb, length}
 use Rattle.codes.specs.Codes.{bad_field, shared_row, bad_medium_length, bad_state}
 use Rattle.level.specs.declared.Level.{Level}
-use Rattle.level.specs.declared.TextLevel.{TextLevel}
+use Rattle.level.specs.Setting.{TextLevel}
 use Rattle.level.specs.Text.{text_level}
 use Rattle.rows.specs.Row.{rows_hold}
 use Rattle.adapter.specs.Adapter.{Adapter, medium_size}

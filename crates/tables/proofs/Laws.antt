@@ -1,11 +1,14 @@
 -- What the bytes say of the tables: laws for the layers above, which open no definition of Tables.antt. Assumes nothing.
 use mathlib.Core.Path.{◌≡◌, refl, sym, ◌∙◌, ap, ap₂}
-use mathlib.Core.Bool.{Bool, true}
+use mathlib.Core.Bool.{Bool, true, false}
 use mathlib.Core.List.{List}
 use Prim.Native.Nat.{ℕ, ◌+◌, ◌-◌, ◌<◌, ◌≤◌}
 use native.Mathlib.Nat.{add-sub_cancel_left, add-zero}
 use native.Mathlib.Omega.{arith}
 use lib.Dec.{ltb}
+use Rattle.std.specs.Prelude.{Option, Some, None, cond}
+use Rattle.std.proofs.lemmas.Option.{cond_some, none-some}
+use Rattle.laws.specs.Choice.{by_bool}
 use lib.ListN.{length, get_or, take, drop, length-replicate}
 use borrow.Author.Tests.{ltb-true}
 use Rattle.laws.specs.Clear.{zeros}
@@ -18,8 +21,8 @@ use Rattle.phy.specs.Entity.{byte_of, port_of}
 use Rattle.rows.specs.Row.{rows_size, rows_of}
 use Rattle.connectors.specs.Connector.{connectors_size, connectors_of}
 use Rattle.adapter.specs.Staged.{staged, nothing_staged}
-use Rattle.adapter.specs.Adapter.{phy_in}
-use Rattle.tables.specs.Tables.{tables_size, phy_start, rows_start, controller_start, status_start, connectors_start, staged_start, staged_at, phy_at, tables_of}
+use Rattle.adapter.specs.Adapter.{Adapter, phy_in}
+use Rattle.tables.specs.Tables.{tables_size, phy_start, rows_start, controller_start, status_start, connectors_start, staged_start, staged_at, phy_at, existing_phy, tables_of}
 
 -- the rows
 pub rows_in : (t : List ℕ) → (tables_of t).rows ≡ rows_of (part t rows_start rows_size)
@@ -88,6 +91,16 @@ pub port_read : (t : List ℕ) (n from : ℕ) → n < 32 → from ≡ phy_start 
     → ◌≡◌ {A = PortIdentifier} (record { 0 = get_or t (from + 28) 0 }) (port_of (phy_in (tables_of t) n))
 unfolding port_of
 port_read t n from h e = rw (e, ← byte_in t n 28 h (omega arith))
+
+-- where there is a phy with that number, and where there is none
+module _ (ad : Adapter) (n : ℕ) (r : Option Phy) (e : r ≡ existing_phy ad n) where
+  pub phy_found : (phy : Phy) → r ≡ Some phy → (ltb n ad.phy_count ≡ true) × (phy_in ad n ≡ phy)
+  phy_found phy f = cond_some (ltb n ad.phy_count) (phy_in ad n) phy (sym e ∙ f)
+
+  pub phy_missing : r ≡ None → ltb n ad.phy_count ≡ false
+  phy_missing f =
+      by_bool (λ (b : Bool). ◌≡◌ {A = Option Phy} (cond b (Some (phy_in ad n)) None) None → b ≡ false)
+      (λ q. absurd (none-some (phy_in ad n) (sym q))) (λ q. refl) (ltb n ad.phy_count) (sym e ∙ f)
 
 -- a phy that exists has a number below 32
 pub exists_below : (t : List ℕ) (n : ℕ) (r : Bool) → (tables_of t).phy_count ≤ 32 → r ≡ ltb n (tables_of t).phy_count → r ≡ true → n < 32

@@ -1,6 +1,5 @@
 -- The laws that the proofs of this crate and of the crates above cite.
 pub mod Laws
-pub mod PhyBytesLaws
 pub mod StoredLaws
 pub mod SameLaws
 pub mod ZeroLaws

@@ -19,8 +19,7 @@ use Rattle.connectors.specs.Connector.{connectors_size}
 use Rattle.connectors.proofs.Laws.{connectors_same}
 use Rattle.adapter.specs.Staged.{Staged}
 use Rattle.adapter.specs.Adapter.{Adapter, phy_in}
-use Rattle.tables.specs.PhyBytes.{counter_bytes}
-use Rattle.tables.proofs.PhyBytesLaws.{phy_bytes}
+use Rattle.tables.specs.PhyBytes.{counter_bytes, phy_bytes}
 use Rattle.tables.specs.Tables.{tables_size, phys_size, phy_start, rows_start, controller_start, status_start, connectors_start, staged_start, staged_at, phy_at, tables_of}
 use Rattle.tables.proofs.Laws.{phy_in_lem, rows_in, controller_in, status_in, connectors_in, staged_in}
 use Rattle.tables.proofs.StoredLaws.{five}

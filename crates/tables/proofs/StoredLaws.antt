@@ -6,13 +6,14 @@ use mathlib.Core.List.{List, [], ◌∷◌, ◌++◌, append_assoc}
 use Prim.Native.Nat.{ℕ, ◌+◌, ◌-◌, ◌<◌, ◌≤◌}
 use native.Mathlib.Omega.{arith}
 use lib.Dec.{ltb}
-use lib.ListN.{length, get_or, take, drop, length-append}
+use lib.ListN.{length, get_or, length-append}
 use borrow.Author.Tests.{ltb-true, ltb-false}
+use borrow.Rule.Slice.PartMut.{put_mid}
 use Rattle.laws.specs.Choice.{by_bool}
 use mir.Syntax.{w32}
 use mir.Val.{Fits}
 use Rattle.laws.specs.Fill.{list_to_set}
-use Rattle.laws.specs.Splice.{part, splice, splice_next, length_part, part_splice, part_below, part_above, part_first, part_behind, get_below, get_above, get_behind, lent_back, splice_all}
+use Rattle.laws.specs.Splice.{part, splice, splice_next, part_splice, part_below, part_above, part_first, part_behind, get_below, get_above, get_behind, lent_back, splice_all}
 use Rattle.wire.specs.Number.{number, bytes}
 use Rattle.wire.proofs.NumberLaws.{length_bytes, number_bytes}
 use Rattle.phy.specs.declared.Phy.{Phy}
@@ -20,8 +21,7 @@ use Rattle.phy.specs.Block.{phy_size, phy_of, no_phy, counters_at}
 use Rattle.rows.specs.Row.{rows_size}
 use Rattle.connectors.specs.Connector.{connectors_size}
 use Rattle.adapter.specs.Adapter.{with_phy}
-use Rattle.tables.specs.PhyBytes.{counter_bytes, last_bytes, written}
-use Rattle.tables.proofs.PhyBytesLaws.{phy_bytes}
+use Rattle.tables.specs.PhyBytes.{counter_bytes, last_bytes, phy_bytes}
 use Rattle.tables.specs.Tables.{tables_size, phy_start, rows_start, controller_start, status_start, connectors_start, staged_start, phy_at, tables_of}
 
 -- ---- a store of a phy's bytes at phy n's place
@@ -142,21 +142,20 @@ module _ (phy : Phy) (e : length phy.entity ≡ 64) (c : length phy.counters ≡
 
 -- ---- what the code leaves
 
-pub counters_stored : (d r c : List ℕ) → length d ≡ phy_size
-    → r ≡ splice (splice (splice (splice d 64 (bytes 4 (get_or c 0 0))) 68 (bytes 4 (get_or c 1 0))) 72 (bytes 4 (get_or c 2 0))) 76 (bytes 4 (get_or c 3 0))
-    → r ≡ splice d 64 (counter_bytes c)
+pub counters_stored : (d x y z r c : List ℕ)
+    → r ≡ splice z 12 (bytes 4 (get_or c 3 0)) → z ≡ splice y 8 (bytes 4 (get_or c 2 0)) → y ≡ splice x 4 (bytes 4 (get_or c 1 0)) → x ≡ splice d 0 (bytes 4 (get_or c 0 0))
+    → length d ≡ 16 → r ≡ counter_bytes c
 unfolding counter_bytes
-counters_stored d r c h s =
+counters_stored d x y z r c s3 s2 s1 s0 h =
     let l : (i : ℕ) → length (bytes 4 (get_or c i 0)) ≡ 4 = λ i. length_bytes 4 (get_or c i 0) in
-    s
-    ∙ rw (splice_next d 64 68 (bytes 4 (get_or c 0 0)) (bytes 4 (get_or c 1 0)) (omega (arith, l 0)) (omega arith))
-    (rw (splice_next d 64 72 (bytes 4 (get_or c 0 0) ++ bytes 4 (get_or c 1 0)) (bytes 4 (get_or c 2 0)) (rw (length-append, l 0, l 1)) (omega arith))
-    (rw (splice_next d 64 76 ((bytes 4 (get_or c 0 0) ++ bytes 4 (get_or c 1 0)) ++ bytes 4 (get_or c 2 0)) (bytes 4 (get_or c 3 0)) (rw (length-append, length-append, l 0, l 1, l 2)) (omega arith))
-    (simp append_assoc)))
-
-counts_long : (c : List ℕ) → length (counter_bytes c) ≡ 16
-unfolding counter_bytes
-counts_long c = simp (length-append, length_bytes)
+    let one_behind : r ≡ splice d 0 (counter_bytes c) =
+    s3 ∙ rw (s2, s1, s0)
+    (rw (splice_next d 0 4 (bytes 4 (get_or c 0 0)) (bytes 4 (get_or c 1 0)) (omega (arith, l 0)) (omega arith))
+    (rw (splice_next d 0 8 (bytes 4 (get_or c 0 0) ++ bytes 4 (get_or c 1 0)) (bytes 4 (get_or c 2 0)) (rw (length-append, l 0, l 1)) (omega arith))
+    (rw (splice_next d 0 12 ((bytes 4 (get_or c 0 0) ++ bytes 4 (get_or c 1 0)) ++ bytes 4 (get_or c 2 0)) (bytes 4 (get_or c 3 0)) (rw (length-append, length-append, l 0, l 1, l 2)) (omega arith))
+    (simp append_assoc)))) in
+    let long : length (counter_bytes c) ≡ 16 = simp (length-append, length_bytes) in
+    splice_all d (counter_bytes c) r (long ∙ sym h) one_behind
 
 -- the fields of a struct's value: how long its arrays are, and that each counter has 32 bits
 pub record Whole (phy : Phy) : Type 0 where
@@ -168,27 +167,15 @@ pub record Whole (phy : Phy) : Type 0 where
   pub fits2 : Fits w32 (get_or phy.counters 2 0)
   pub fits3 : Fits w32 (get_or phy.counters 3 0)
 
-written_bytes : (d : List ℕ) (phy : Phy) → length d ≡ phy_size → Whole phy → written d phy ≡ phy_bytes phy
-unfolding phy_bytes written
-written_bytes d phy h w =
-    let k : length (counter_bytes phy.counters) ≡ 16 = counts_long phy.counters in
-    splice_all d (phy.entity ++ (counter_bytes phy.counters ++ (phy.signature ++ last_bytes phy))) (written d phy)
-    (rw (length-append, length-append, length-append, w.entity, k, w.signature, h))
-    (rw (splice_next d 0 64 phy.entity (counter_bytes phy.counters) (omega arith) (omega arith))
-    (rw (splice_next d 0 80 (phy.entity ++ counter_bytes phy.counters) phy.signature (rw (length-append, w.entity, k)) (omega arith))
-    (rw (splice_next d 0 100 ((phy.entity ++ counter_bytes phy.counters) ++ phy.signature) (last_bytes phy) (rw (length-append, length-append, w.entity, k, w.signature)) (omega arith))
-    (simp append_assoc))))
-
-written_back : (d : List ℕ) (phy : Phy) → length d ≡ phy_size → Whole phy → phy_of (written d phy) ≡ phy
-written_back d phy h w =
-    ap phy_of (written_bytes d phy h w) ∙ phy_back phy w.entity w.counters w.signature w.fits0 w.fits1 w.fits2 w.fits3
+whole_bytes : (phy : Phy) → Whole phy → length (phy_bytes phy) ≡ phy_size
+unfolding phy_bytes counter_bytes
+whole_bytes phy w = simp (length-append, length_bytes, w.entity, w.signature)
 
 -- a phy's bytes that were lent to the writing of one
-pub phy_put : (t d : List ℕ) (from n : ℕ) (phy : Phy) → n < 32 → length t ≡ tables_size → from ≡ phy_start n → length d ≡ length (take (from + phy_size - from) (drop from t))
-    → Whole phy → d ≡ written (take (from + phy_size - from) (drop from t)) phy → tables_of (take from t ++ (d ++ drop (from + phy_size - from) (drop from t))) ≡ with_phy (tables_of t) n phy
-unfolding part
-phy_put t d from n phy h e p l w q =
+pub phy_put : (t d : List ℕ) (from n : ℕ) (phy : Phy) → d ≡ phy_bytes phy → from ≡ phy_start n → n < 32 → length t ≡ tables_size
+    → Whole phy → tables_of (put_mid from (from + phy_size - from) t d) ≡ with_phy (tables_of t) n phy
+phy_put t d from n phy q p h e w =
     let k : from + phy_size - from ≡ phy_size = omega arith in
-    let j : length (take (from + phy_size - from) (drop from t)) ≡ phy_size = rw k (length_part t from phy_size (omega arith)) in
-    let m : length d ≡ phy_size = l ∙ j in
-    rw (k, lent_back t from phy_size d m, p) (tables_stored t d n e h m phy (ap phy_of q ∙ written_back (take (from + phy_size - from) (drop from t)) phy j w))
+    let l : length (phy_bytes phy) ≡ phy_size = whole_bytes phy w in
+    let back : phy_of (phy_bytes phy) ≡ phy = phy_back phy w.entity w.counters w.signature w.fits0 w.fits1 w.fits2 w.fits3 in
+    rw (k, q, p, lent_back t (phy_start n) phy_size (phy_bytes phy) l) (tables_stored t (phy_bytes phy) n e h l phy back)

@@ -2,7 +2,7 @@
 -- level stands before them, apart). 6,189 bytes, each of them named here: p, a, the driver info, 32 phys of 105 bytes, each as the first 105 of its
 -- block in the adapter file, 64 rows of 20, of W-204 the controller's configuration and status and 32 connectors of 36, and of W-207 whether firmware is staged, one byte, and the eight of its revisions. Every list of that
 -- length stands for an adapter. Assumes nothing.
-use Rattle.std.specs.Prelude.{List, ℕ, ◌+◌, ◌*◌, get_or}
+use Rattle.std.specs.Prelude.{if◌then◌else◌, List, ℕ, ◌+◌, ◌*◌, ltb, get_or, Option, Some, None}
 use Rattle.laws.specs.Fill.{list_to}
 use Rattle.laws.specs.Splice.{part}
 use Rattle.phy.specs.declared.Phy.{Phy}
@@ -10,7 +10,7 @@ use Rattle.phy.specs.Block.{phy_size, phy_of}
 use Rattle.rows.specs.Row.{rows_size, rows_of}
 use Rattle.connectors.specs.Connector.{connectors_size, connectors_of}
 use Rattle.adapter.specs.Staged.{Staged, staged}
-use Rattle.adapter.specs.Adapter.{Adapter}
+use Rattle.adapter.specs.Adapter.{Adapter, phy_in}
 
 abbrev pub tables_size : ℕ
 tables_size = 6189
@@ -63,3 +63,7 @@ tables_of t =
       connectors = connectors_of (part t connectors_start connectors_size);
       staged = staged_at t;
     }
+
+-- "phy exists": phy n, of those below p
+abbrev pub existing_phy : Adapter → ℕ → Option Phy
+existing_phy ad n = if ltb n ad.phy_count then Some (phy_in ad n) else None

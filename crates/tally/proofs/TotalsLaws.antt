@@ -1,33 +1,57 @@
 -- Counting as the lines come gives the number of lines of each kind, and these sum to the number of lines. Assumes nothing.
-use mathlib.Core.Path.{◌≡◌, refl, sym}
-use mathlib.Core.Bool.{Bool, true, false}
+use mathlib.Core.Path.{◌≡◌, refl}
+use mathlib.Core.Bool.{Bool, true}
 use mathlib.Core.List.{List, [], ◌∷◌, ◌++◌}
-use Prim.Native.Nat.{ℕ, ◌+◌}
+use Prim.Native.Nat.{◌+◌}
 use native.Mathlib.Omega.{arith}
 use lib.ListN.{length-append}
 use Rattle.laws.specs.Cases.{All}
 use Rattle.laws.specs.Runs.{shown_by}
 use Rattle.tally.specs.declared.Line.{Line}
-use Rattle.tally.specs.declared.Taken.{Taken}
-use Rattle.tally.specs.declared.Taken.TheVariants.{Handled}
-use Rattle.tally.specs.declared.Totals.{Totals}
-use Rattle.tally.specs.Kinds.{LineKind, Granted, Denied, Otherwise, Short, is_granted, is_denied, is_short, is_otherwise, is}
-use Rattle.tally.specs.Totals.{totals, one, number_of, count_of, tally_of, counted, after, Sums, AllSum}
+use Rattle.tally.specs.Kinds.{LineKind, Granted, Denied, Otherwise, Short, is}
+use Rattle.tally.specs.Totals.{Totals, totals, one, number_of, count_of, tally_of, counted, Sums, AllSum}
 use native.Mathlib.Nat.{add-zero}
 use Rattle.tally.proofs.KindsLaws.{counts_once}
 
 -- ---- one line more
 
--- each total grown by its own test
-pub counted_by : (t : Totals) (l : Line) (a b d e : Bool) (granted denied otherwise short : ℕ)
-    → a ≡ is_granted l → b ≡ is_denied l → d ≡ is_otherwise l → e ≡ is_short l
-    → granted ≡ t.granted + one a → denied ≡ t.denied + one b → otherwise ≡ t.otherwise + one d → short ≡ t.short + one e
-    → totals (t.requests + 1) granted denied otherwise short ≡ counted t l
-unfolding counted
-counted_by t l a b d e granted denied otherwise short p q r s g n o h = rw (g, n, o, h, p, q, r, s)
+-- a line of a kind, which it alone has
+module _ (t : Totals) (l : Line) where
+  pub counted_granted : is Granted l ≡ true → totals (t.requests + 1) (t.granted + 1) t.denied t.otherwise t.short ≡ counted t l
+  unfolding counted
+  counted_granted e =
+      let a : one (is Granted l) ≡ 1 = rw e refl in
+      let b : one (is Denied l) ≡ 0 = omega (arith, a, counts_once l) in
+      let c : one (is Otherwise l) ≡ 0 = omega (arith, a, counts_once l) in
+      let d : one (is Short l) ≡ 0 = omega (arith, a, counts_once l) in
+      rw (a, b, c, d, add-zero t.denied, add-zero t.otherwise, add-zero t.short) refl
 
-pub after_handled : (t r : Totals) (taken : Taken) (l : Line) → taken ≡ Handled l → r ≡ counted t l → r ≡ after t taken
-after_handled t r taken l e p = rw e p
+  pub counted_denied : is Denied l ≡ true → totals (t.requests + 1) t.granted (t.denied + 1) t.otherwise t.short ≡ counted t l
+  unfolding counted
+  counted_denied e =
+      let a : one (is Denied l) ≡ 1 = rw e refl in
+      let b : one (is Granted l) ≡ 0 = omega (arith, a, counts_once l) in
+      let c : one (is Otherwise l) ≡ 0 = omega (arith, a, counts_once l) in
+      let d : one (is Short l) ≡ 0 = omega (arith, a, counts_once l) in
+      rw (a, b, c, d, add-zero t.granted, add-zero t.otherwise, add-zero t.short) refl
+
+  pub counted_otherwise : is Otherwise l ≡ true → totals (t.requests + 1) t.granted t.denied (t.otherwise + 1) t.short ≡ counted t l
+  unfolding counted
+  counted_otherwise e =
+      let a : one (is Otherwise l) ≡ 1 = rw e refl in
+      let b : one (is Granted l) ≡ 0 = omega (arith, a, counts_once l) in
+      let c : one (is Denied l) ≡ 0 = omega (arith, a, counts_once l) in
+      let d : one (is Short l) ≡ 0 = omega (arith, a, counts_once l) in
+      rw (a, b, c, d, add-zero t.granted, add-zero t.denied, add-zero t.short) refl
+
+  pub counted_short : is Short l ≡ true → totals (t.requests + 1) t.granted t.denied t.otherwise (t.short + 1) ≡ counted t l
+  unfolding counted
+  counted_short e =
+      let a : one (is Short l) ≡ 1 = rw e refl in
+      let b : one (is Granted l) ≡ 0 = omega (arith, a, counts_once l) in
+      let c : one (is Denied l) ≡ 0 = omega (arith, a, counts_once l) in
+      let d : one (is Otherwise l) ≡ 0 = omega (arith, a, counts_once l) in
+      rw (a, b, c, d, add-zero t.granted, add-zero t.denied, add-zero t.otherwise) refl
 
 count_more : (k : LineKind) (lines : List Line) (l : Line) → count_of k (lines ++ (l ∷ [])) ≡ count_of k lines + one (is k l)
 unfolding number_of
@@ -38,14 +62,6 @@ pub tally_more : (lines : List Line) (l : Line) → counted (tally_of lines) l �
 unfolding tally_of counted
 tally_more lines l =
     rw (count_more Granted lines l, count_more Denied lines l, count_more Otherwise lines l, count_more Short lines l, length-append lines (l ∷ [])) refl
-
--- ---- one total
-
-pub grown_yes : (n : ℕ) (b : Bool) → b ≡ true → n + 1 ≡ n + one b
-grown_yes n b e = rw e refl
-
-pub grown_no : (n : ℕ) (b : Bool) → b ≡ false → n ≡ n + one b
-grown_no n b e = rw e (sym (add-zero n))
 
 -- ---- the sum
 

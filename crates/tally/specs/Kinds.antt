@@ -2,6 +2,8 @@
 use Rattle.std.specs.Prelude.{◌≡◌, Bool, true, ◌&&◌, not, ℕ, eqb}
 use Rattle.codes.specs.Codes.{success, write_attempted, short_buffer}
 use Rattle.tally.specs.declared.Line.{Line}
+use Rattle.tally.specs.declared.Kind.{Kind}
+use Rattle.tally.specs.declared.Kind.TheVariants.{Granted as IsGranted, Denied as IsDenied, Otherwise as IsOtherwise, Short as IsShort}
 
 -- the call's number and the return code
 abbrev pub line : ℕ → ℕ → Line
@@ -33,6 +35,13 @@ pub data LineKind : Type 0 where
   Denied : LineKind
   Otherwise : LineKind
   Short : LineKind
+
+-- as the code has them
+abbrev pub kind_of : Kind → LineKind
+kind_of IsGranted = Granted
+kind_of IsDenied = Denied
+kind_of IsOtherwise = Otherwise
+kind_of IsShort = Short
 
 -- whether a line is of a kind
 abbrev pub is : LineKind → Line → Bool

@@ -5,9 +5,8 @@ use Rattle.laws.specs.Splice.{part, splice}
 use Rattle.wire.specs.Number.{number, bytes}
 use Rattle.codes.specs.Codes.{short_buffer}
 use Rattle.tally.specs.declared.Line.{Line}
-use Rattle.tally.specs.declared.Totals.{Totals}
 use Rattle.tally.specs.Kinds.{line}
-use Rattle.tally.specs.Totals.{tally_of}
+use Rattle.tally.specs.Totals.{Totals, tally_of}
 
 -- ---- lines
 

@@ -1,10 +1,16 @@
 -- The totals (W-206): "Each total equals the number of printed lines of that kind, and the last four sum to the first." Assumes nothing.
 use Rattle.std.specs.Prelude.{◌≡◌, Bool, true, false, cond, List, [], ◌∷◌, ℕ, ◌+◌, length}
 use Rattle.tally.specs.declared.Line.{Line}
-use Rattle.tally.specs.declared.Taken.{Taken}
-use Rattle.tally.specs.declared.Taken.TheVariants.{Handled, Cut, End}
-use Rattle.tally.specs.declared.Totals.{Totals}
+use Rattle.tally.specs.Taken.{Taken, Handled, Cut, End}
 use Rattle.tally.specs.Kinds.{LineKind, Granted, Denied, Otherwise, Short, is}
+
+-- the number of requests, and the last four
+pub record Totals : Type 0 where
+  pub requests : ℕ
+  pub granted : ℕ
+  pub denied : ℕ
+  pub otherwise : ℕ
+  pub short : ℕ
 
 -- "`total`, then requests, granted, denied, otherwise refused and 100s"
 abbrev pub totals : ℕ → ℕ → ℕ → ℕ → ℕ → Totals

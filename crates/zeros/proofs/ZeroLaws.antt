@@ -1,19 +1,22 @@
--- Bytes that are 0, part by part, by the largest of them, and by a sum. Assumes nothing.
+-- Bytes that are 0, part by part and byte by byte. Assumes nothing.
 use mathlib.Core.Path.{◌≡◌, refl, sym, ◌∙◌, ap}
 use mathlib.Core.Bool.{Bool, true, ◌&&◌, and_assoc, and-true}
 use mathlib.Core.List.{List, [], ◌∷◌, ◌++◌}
-use Prim.Native.Nat.{ℕ, zero, suc, ◌+◌, ◌*◌, ◌/◌, ◌%◌, ◌<◌, ◌≤◌}
-use native.Mathlib.Nat.{mul-suc, mul-zero, one-mul}
+use Prim.Native.Nat.{ℕ, zero, suc, ◌+◌, ◌*◌, ◌<◌, ◌≤◌}
+use native.Mathlib.Nat.{mul-suc, mul-zero}
 use native.Mathlib.Omega.{arith}
 use lib.Dec.{eqb}
-use lib.ListN.{length, get_or}
-use lib.Seq.{drop-cons}
+use lib.ListN.{length, get_or, take}
+use lib.Seq.{drop-cons, take_all}
+use borrow.Author.Rules.{rules}
 use borrow.Author.Tests.{eq-eqb, ne_eqb, eqb-true, eqb-false}
+use Rattle.std.specs.Prelude.{slice_range}
+use Rattle.std.specs.Int.Bits.{bit_or, or_zero_l}
+use Rattle.std.proofs.lemmas.Nat.{le_or_l}
 use Rattle.laws.specs.All.{all_to}
 use Rattle.laws.specs.Choice.{by_bool}
 use Rattle.laws.specs.Splice.{part, part_add}
-use Rattle.laws.specs.Sum.{sum_to}
-use Rattle.laws.specs.Largest.{largest_to, largest_zero}
+use Rattle.laws.specs.Lent.{lent_part}
 use Rattle.numbers.specs.Number.{number}
 use Rattle.compare.specs.Same.{same_bytes, all_zero}
 
@@ -63,33 +66,31 @@ zero_run f l at w zero h k = rw mul-zero (zero_none l at)
 zero_run f l at w (suc m) h k =
     rw mul-suc (zero_split l at (w * m) w ∙ rw (zero_run f l at w m (omega (arith, mul-suc w m)) (λ i j. k i (omega arith)), k m (omega arith)))
 
--- ---- what tells that a part is 0: the largest of its bytes
+-- ---- the loop that looks at each byte
 
-bytes_all : (s : List ℕ) (at n : ℕ) → at + n ≤ length s → all_zero (part s at n) ≡ all_to (λ (i : ℕ). eqb (get_or s (at + i) 0) 0) n
-bytes_all s at n h =
-    ap (λ (m : ℕ). all_zero (part s at m)) (sym (one-mul n))
-    ∙ zero_run (λ (i : ℕ). eqb (get_or s (at + i) 0) 0) s at 1 n (omega arith)
-    (λ i l. ap (λ (m : ℕ). all_zero (part s (at + m) 1)) (one-mul i) ∙ zero_one s (at + i) (omega arith))
+pub turn_none : true ≡ all_zero []
+unfolding all_zero same_bytes
+turn_none = refl
 
-pub zero_by_largest : (s : List ℕ) (at n r : ℕ) → at + n ≤ length s → r ≡ largest_to (λ (i : ℕ). get_or s (at + i) 0) n → eqb r 0 ≡ all_zero (part s at n)
-zero_by_largest s at n r h p = ap (λ (m : ℕ). eqb m 0) p ∙ largest_zero (λ (i : ℕ). get_or s (at + i) 0) n ∙ sym (bytes_all s at n h)
+take_more : (l : List ℕ) (i : ℕ) → i < length l → all_zero (take (i + 1) l) ≡ all_zero (take i l) && eqb (get_or l i 0) 0
+unfolding part
+take_more l i h =
+    let a : all_zero (take (i + 1) l) ≡ all_zero (take i l) && all_zero (part l (0 + i) 1) = zero_split l 0 i 1 in
+    let b : 0 + i ≡ i = omega arith in
+    a ∙ ap (λ (k : ℕ). all_zero (take i l) && all_zero (part l k 1)) b ∙ ap (λ (t : Bool). all_zero (take i l) && t) (zero_one l i h)
 
--- and so is the sum of its words and of the bytes that are left
-sum_all : (f : ℕ → ℕ) (n : ℕ) → eqb (sum_to f n) 0 ≡ all_to (λ (i : ℕ). eqb (f i) 0) n
-unfolding sum_to all_to
-sum_all f zero = refl
-sum_all f (suc n) = both_zero (sum_to f n) (f n) ∙ ap (λ (t : Bool). t && eqb (f n) 0) (sum_all f n)
+zero_or : (a b : ℕ) → eqb (bit_or a b) 0 ≡ eqb a 0 && eqb b 0
+zero_or a b =
+    by_bool (λ (t : Bool). eqb a 0 ≡ t → eqb (bit_or a b) 0 ≡ t && eqb b 0)
+    (λ p. let z : a ≡ 0 = eqb-true a 0 p in ap (λ (n : ℕ). eqb (bit_or n b) 0) z ∙ ap (λ (n : ℕ). eqb n 0) (or_zero_l b))
+    (λ p. ne_eqb (bit_or a b) 0 (λ z. eqb-false a 0 p (omega (arith, le_or_l a b)))) (eqb a 0) refl
 
-words_zero : (s : List ℕ) (at n : ℕ) → at + 4 * n ≤ length s → eqb (sum_to (λ (i : ℕ). number (part s (at + 4 * i) 4)) n) 0 ≡ all_zero (part s at (4 * n))
-words_zero s at n h =
-    sum_all (λ (i : ℕ). number (part s (at + 4 * i) 4)) n
-    ∙ sym (zero_run (λ (i : ℕ). eqb (number (part s (at + 4 * i) 4)) 0) s at 4 n h (λ i l. zero_number (part s (at + 4 * i) 4)))
+-- a turn, where m has what the bytes so far have
+pub turn_more : (l : List ℕ) (i m : ℕ) → i < length l → eqb m 0 ≡ all_zero (take i l) → eqb (bit_or m (get_or l i 0)) 0 ≡ all_zero (take (i + 1) l)
+turn_more l i m h e = zero_or m (get_or l i 0) ∙ ap (λ (t : Bool). t && eqb (get_or l i 0) 0) e ∙ sym (take_more l i h)
 
-pub zero_by_sum : (s : List ℕ) (at n w b : ℕ) → at + n ≤ length s → w ≡ sum_to (λ (i : ℕ). number (part s (at + 4 * i) 4)) (n / 4)
-    → b ≡ sum_to (λ (i : ℕ). get_or s (at + 4 * (n / 4) + i) 0) (n % 4) → eqb (w + b) 0 ≡ all_zero (part s at n)
-zero_by_sum s at n w b h p q =
-    let e : 4 * (n / 4) + n % 4 ≡ n = omega arith in
-    let a = words_zero s at (n / 4) (omega arith) in
-    let c = sum_all (λ (i : ℕ). get_or s (at + 4 * (n / 4) + i) 0) (n % 4) ∙ sym (bytes_all s (at + 4 * (n / 4)) (n % 4) (omega arith)) in
-    rw (p, q) (both_zero (sum_to (λ (i : ℕ). number (part s (at + 4 * i) 4)) (n / 4)) (sum_to (λ (i : ℕ). get_or s (at + 4 * (n / 4) + i) 0) (n % 4))
-    ∙ rw (a, c) (sym (zero_split s at (4 * (n / 4)) (n % 4))) ∙ ap (λ (m : ℕ). all_zero (part s at m)) e)
+pub turns_done : (s : List ℕ) (at n i m : ℕ) → at + n ≤ length s → eqb m 0 ≡ all_zero (take i (slice_range s at (at + n))) → length (slice_range s at (at + n)) ≤ i
+    → eqb m 0 ≡ all_zero (part s at n)
+turns_done s at n i m h e k = e ∙ ap all_zero (take_all i (slice_range s at (at + n)) k ∙ lent_part s at n)
+
+pub ruleset zero_loop = (turn_none, turn_more, turns_done, rules)

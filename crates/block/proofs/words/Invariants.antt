@@ -1,10 +1,7 @@
-use Rattle.std.proofs.Common.{◌≡◌, ◌*◌, ◌-◌, ◌≤◌}
+use Rattle.std.proofs.Common.{◌≡◌, ◌*◌, ◌≤◌}
 use Rattle.laws.specs.Sum.{sum_to}
 use Rattle.block.specs.Check.{word}
 use Rattle.block.proofs.words.Given as goal
 
 abbrev pub invariant-loop-i : goal.invariant-loop-i
-invariant-loop-i l = (l.i ≤ 127) × (l.sum ≡ sum_to (word l.block) l.i) × (l.sum ≤ l.i * 4294967295)
-
-abbrev pub decreases-loop-i : goal.decreases-loop-i
-decreases-loop-i l = 127 - l.i
+invariant-loop-i l = (l.sum ≡ sum_to (word l.block) l.i) × (l.sum ≤ l.i * 4294967295)

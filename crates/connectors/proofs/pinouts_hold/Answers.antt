@@ -1,7 +1,11 @@
-use Rattle.laws.specs.All.{all_loop}
-use Rattle.connectors.specs.Connector.{pinouts_hold}
+use Rattle.std.proofs.Common.{rules, ◌∙◌}
+use Rattle.std.proofs.lemmas.Iterator.Search.{all_from_yields_List}
+use Rattle.std.proofs.lemmas.Iterator.{YieldsList-from_slice, YieldsList-from_take}
+use Rattle.connectors.specs.Pinout.{pinout_holds}
+use Rattle.connectors.proofs.Laws.{pinouts_first}
 use Rattle.connectors.proofs.pinouts_hold.Goals as goal
 
-pub returns-else-pinout_holds : goal.returns-else-pinout_holds
-unfolding pinouts_hold
-returns-else-pinout_holds c = search all_loop
+pub returns : goal.returns
+returns c =
+    all_from_yields_List pinout_holds _ _ _ c.all.ensures.ran (YieldsList-from_take c.args.p (YieldsList-from_slice c.as_chunks.result.0.now cc) cc) (λ x b q k. search rules)
+    ∙ rw c.as_chunks.ensures.front (pinouts_first c.args.connectors.now c.args.p c.told-connectors c.requires)

@@ -1,10 +1,7 @@
-use Rattle.std.proofs.Common.{◌≡◌, ◌-◌, ◌≤◌}
-use Rattle.laws.specs.Splice.{part, splice}
+use Rattle.std.proofs.Common.{◌≡◌, ◌+◌, ◌++◌, drop}
+use Rattle.std.specs.Prelude.{slice_range}
 use Rattle.laws.specs.Clear.{zeros}
 use Rattle.copies.proofs.clear.Given as goal
 
-abbrev pub invariant-loop-j : goal.invariant-loop-j
-invariant-loop-j l = (l.j ≤ l.n) × (l.d ≡ splice l.initial.d l.at (part (zeros l.n) 0 l.j))
-
-abbrev pub decreases-loop-j : goal.decreases-loop-j
-decreases-loop-j l = l.n - l.j
+abbrev pub invariant-loop-byte : goal.invariant-loop-byte
+invariant-loop-byte l = l.byte-items ≡ zeros l.byte-index ++ drop l.byte-index (slice_range l.fn.d l.at (l.at + l.n))

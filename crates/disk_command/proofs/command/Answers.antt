@@ -1,6 +1,35 @@
-use Rattle.std.proofs.Common.{rules}
-use Rattle.disk.proofs.StoresLaws.{asked_lent}
+use Rattle.disk_command.proofs.MadeLaws.{left}
 use Rattle.disk_command.proofs.command.Goals as goal
 
-pub perform-requires : goal.perform-requires
-perform-requires c = search (asked_lent, rules)
+pub returns-in_default : goal.returns-in_default
+returns-in_default c = search left
+
+pub returns-then-asked-moved : goal.returns-then-asked-moved
+returns-then-asked-moved c = search left
+
+pub slice_bounds-copy_from_slice-end : goal.slice_bounds-copy_from_slice-end
+slice_bounds-copy_from_slice-end c = search left
+
+pub slice_bounds-copy_from_slice-end-in-32 : goal.slice_bounds-copy_from_slice-end-in-32
+slice_bounds-copy_from_slice-end-in-32 c = search left
+
+pub slice_bounds-copy_from_slice-end-in-48 : goal.slice_bounds-copy_from_slice-end-in-48
+slice_bounds-copy_from_slice-end-in-48 c = search left
+
+pub slice_bounds-copy_from_slice-end-in-48-2 : goal.slice_bounds-copy_from_slice-end-in-48-2
+slice_bounds-copy_from_slice-end-in-48-2 c = search left
+
+pub slice_bounds-copy_from_slice-end-in-236 : goal.slice_bounds-copy_from_slice-end-in-236
+slice_bounds-copy_from_slice-end-in-236 c = search left
+
+pub returns-in-32 : goal.returns-in-32
+returns-in-32 c = search left
+
+pub returns-in-48 : goal.returns-in-48
+returns-in-48 c = search left
+
+pub returns-in-236 : goal.returns-in-236
+returns-in-236 c = search left
+
+pub returns-in_default-command : goal.returns-in_default-command
+returns-in_default-command c = search left

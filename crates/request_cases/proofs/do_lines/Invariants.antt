@@ -1,13 +1,5 @@
-use Rattle.std.proofs.Common.{length, ◌-◌, ◌≡◌, ◌≤◌}
+use Rattle.std.proofs.Common.{◌≤◌}
 use Rattle.request_cases.proofs.do_lines.Given as goal
 
-abbrev pub invariant-loop-from : goal.invariant-loop-from
-invariant-loop-from g l =
-    (length l.state ≡ length l.initial.state)
-    × (length l.file ≡ length l.initial.file)
-    × (length l.medium ≡ length l.initial.medium)
-    × (length l.stage ≡ length l.initial.stage)
-    × (l.lent ≤ 65536)
-
-abbrev pub decreases-loop-from : goal.decreases-loop-from
-decreases-loop-from g l = length l.input - l.from
+abbrev pub invariant-loop-line : goal.invariant-loop-line
+invariant-loop-line g l = l.lent ≤ 65536

@@ -1,5 +1,6 @@
-use Rattle.tally.proofs.RecordLaws.{record_loop}
+use Rattle.std.proofs.Common.{arith}
+use Rattle.tally.proofs.RecordLaws.{record_room}
 use Rattle.tally_record.proofs.tally.Goals as goal
 
-pub count-totals-requires-clause-requests_bound : goal.count-totals-requires-clause-requests_bound
-count-totals-requires-clause-requests_bound c = search record_loop
+pub count-totals-requires : goal.count-totals-requires
+count-totals-requires c = record { requests_bound = record_room _ _ _ _ c.loop-bytes.invariant c.loop-bytes-test.true (omega arith) }

@@ -1,10 +1,5 @@
-use Rattle.std.proofs.Common.{◌≡◌, true, ◌-◌, ◌≤◌}
-use Rattle.laws.specs.All.{all_to}
 use Rattle.unnamed.specs.Unnamed.{connector_block_zero}
 use Rattle.unnamed.proofs.connector_blocks_zero.Given as goal
 
-abbrev pub invariant-loop-k : goal.invariant-loop-k
-invariant-loop-k l = (l.k ≤ l.p) × (all_to (connector_block_zero l.file l.p l.a) l.k ≡ true)
-
-abbrev pub decreases-loop-k : goal.decreases-loop-k
-decreases-loop-k l = l.p - l.k
+abbrev pub ghost-all_below : goal.ghost-all_below
+ghost-all_below a = connector_block_zero a.test.0.now.bytes.now a.test.0.now.counts.phys a.test.0.now.counts.rows

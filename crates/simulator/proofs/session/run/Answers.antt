@@ -1,6 +1,10 @@
-use Rattle.simulator.proofs.SessionLaws.{loop_sums}
+use Rattle.tally.specs.Taken.{taken_of}
+use Rattle.simulator.proofs.SessionLaws.{loop_next}
 use Rattle.simulator.proofs.session.run.Goals as goal
 
-pub loop-totals-preserved : goal.loop-totals-preserved
-loop-totals-preserved g c =
-    loop_sums c.take_next-next.result.totals c.loop-totals.totals c.take_next-next.result.taken c.loop-totals.invariant c.take_next-next.ensures
+pub loop-number-preserved : goal.loop-number-preserved
+loop-number-preserved g c = loop_next _ _ (taken_of c.take_next-taken.result) _ _ c.take_next-taken.ensures c.is_last.ensures c.if-is_last.false c.loop-number.invariant
+
+pub returns-else-is_last : goal.returns-else-is_last
+returns-else-is_last g c =
+    (loop_next _ _ (taken_of c.take_next-taken.result) _ _ c.take_next-taken.ensures c.is_last.ensures c.if-is_last.false c.loop-number.invariant).0

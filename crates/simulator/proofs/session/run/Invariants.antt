@@ -1,9 +1,7 @@
-use Rattle.std.proofs.Common.{◌-◌}
+use Rattle.std.proofs.Common.{◌≡◌, ◌+◌}
 use Rattle.tally.specs.Totals.{Sums}
 use Rattle.simulator.proofs.session.run.Given as goal
 
-abbrev pub invariant-loop-totals : goal.invariant-loop-totals
-invariant-loop-totals g l = Sums l.totals
-
-abbrev pub decreases-loop-totals : goal.decreases-loop-totals
-decreases-loop-totals g l = 18446744073709551615 - l.totals.requests
+-- the next request's number is one more than those that were counted
+abbrev pub invariant-loop-number : goal.invariant-loop-number
+invariant-loop-number g l = Sums l.totals × (l.totals.requests + 1 ≡ l.number)

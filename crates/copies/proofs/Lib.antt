@@ -1,2 +1,0 @@
--- The laws that the proofs of this crate and of the crates above cite.
-pub mod SixteensLaws
