@@ -9,7 +9,7 @@ mod session;
 ghost use Rattle.std.specs.Prelude.{◌≤◌, length};
 
 use codes::CallError;
-use print::{say_open, say_title, say_totals};
+use print::say_title;
 use reading::read_full;
 use session::run;
 use std::fs::File;
@@ -35,6 +35,12 @@ fn read_file<F: Files>(files: &F, path: &str, buf: &mut [u8]) -> usize
     }
 }
 
+// The line of a refused opening.
+fn say_refused<P: Print>(rt: &P, error: CallError) {
+    let call = u32::from(error);
+    let _ = println!(rt; "open {call}");
+}
+
 // Opens the adapter, and handles the session where that is accepted.
 fn simulate<P: Print, I: Read>(rt: &P, input: &mut I, text: &[u8], file: &[u8], medium: &mut [u8]) {
     let mut state = [0u8; dispatch::SIZE];
@@ -42,9 +48,10 @@ fn simulate<P: Print, I: Read>(rt: &P, input: &mut I, text: &[u8], file: &[u8], 
     match dispatch::open(text, file, medium, &mut state) {
         Ok(()) => {
             say_title(rt);
-            say_totals(rt, run(rt, input, &mut state, medium, &mut stage));
+            let totals = run(rt, input, &mut state, medium, &mut stage);
+            let _ = println!(rt; "total {totals}");
         }
-        Err(error) => say_open(rt, error),
+        Err(error) => say_refused(rt, error),
     }
 }
 
@@ -61,7 +68,7 @@ fn with_disks<P: Print, I: Read>(rt: &P, input: &mut I, text: &[u8], file: &[u8]
 fn start<P: Print, I: Read>(rt: &P, input: &mut I, text: &[u8], file: &[u8]) {
     let p = file.first().copied().unwrap_or(0);
     if p > PHY_LIMIT {
-        say_open(rt, CallError::BadField);
+        say_refused(rt, CallError::BadField);
     } else {
         with_disks(rt, input, text, file, p);
     }

@@ -1,13 +1,7 @@
 // What the program prints, a line at a time. A line that cannot be written is lost, and the session goes on.
-use codes::CallError;
-use tally::{Cut, Taken, Totals};
+use tally::{Cut, Taken};
 
-// A refused opening.
-pub fn say_open<P: Print>(rt: &P, error: CallError) {
-    let call = u32::from(error);
-    let _ = println!(rt; "open {call}");
-}
-
+// The heading of a session's lines.
 pub fn say_title<P: Print>(rt: &P) {
     let _ = println!(rt; "request call code");
 }
@@ -23,9 +17,4 @@ pub fn say_taken<P: Print>(rt: &P, number: u64, taken: Taken) {
             let _ = println!(rt; "cut");
         }
     }
-}
-
-// The last line.
-pub fn say_totals<P: Print>(rt: &P, totals: Totals) {
-    let _ = println!(rt; "total {totals}");
 }
