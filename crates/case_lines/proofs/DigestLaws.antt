@@ -26,6 +26,9 @@ pub digest_done : (l : List ℕ) (d k r : ℕ) → k ≤ length l → length l �
 unfolding digest_of
 digest_done l d k r h m p = p ∙ ap (steps (byte_step l) d) (le_antisymm h m)
 
+pub steps_done : (f : ℕ → ℕ → ℕ) (d k n r : ℕ) → k ≤ n → n ≤ k → r ≡ steps f d k → r ≡ steps f d n
+steps_done f d k n r h m p = p ∙ ap (steps f d) (le_antisymm h m)
+
 pub ruleset steps_loop = (steps_none, steps_more, digest_done, rules)
 
 part_is : (l : List ℕ) (at n : ℕ) → part l at n ≡ take n (drop at l)

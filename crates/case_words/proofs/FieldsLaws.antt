@@ -4,7 +4,7 @@ use mathlib.Core.Bool.{Bool, true, false, cond, not}
 use mathlib.Core.List.{List, [], ◌∷◌}
 use Prim.Native.Nat.{ℕ, zero, suc, ◌+◌, ◌-◌, ◌*◌, ◌/◌, ◌%◌, ◌<◌, ◌≤◌}
 use native.Mathlib.Numerals.{add-one, one-add}
-use native.Mathlib.Nat.{mod-eq_of_lt, mod-add-div, mod-add-mod, add-mul-mod_self_left, add-zero}
+use native.Mathlib.Nat.{le_antisymm, mod-eq_of_lt, mod-add-div, mod-add-mod, add-mul-mod_self_left, add-zero, zero-add}
 use native.Mathlib.Omega.{arith}
 use lib.Dec.{eqb, ltb}
 use Rattle.std.specs.Prelude.{Some, None, position, nat_eq, nat_lt}
@@ -14,9 +14,9 @@ use Rattle.laws.specs.Splice.{rest}
 use lib.ListN.{length, get_or, take, drop, drop_of_length-le}
 use lib.Seq.{drop-cons, drop-drop, get_or-drop, take_all}
 use borrow.Author.Rules.{rules}
-use borrow.Author.Tests.{ltb-false}
+use borrow.Author.Tests.{ltb-false, eq-eqb, ne_eqb}
 use Rattle.laws.specs.Choice.{by_bool}
-use Rattle.case_words.specs.Fields.{joined_words, words, pieces, is_digit, digit_of, decimal, number_of, field_of, up_to, behind, from_word}
+use Rattle.case_words.specs.Fields.{joined_words, words, pieces, is_digit, digit_of, decimal, number_of, field_of, up_to, behind, from_word, index_of}
 
 -- ---- the first c
 
@@ -57,6 +57,25 @@ module _ (s : List ℕ) (c : ℕ) where
   unfolding behind
   behind_none e = sym (drop_of_length-le s {i = suc (length (up_to c s))} (let h : length s ≤ length (up_to c s) = none_found e in omega arith))
 
+-- ---- where it is
+
+pub index_hit : (s : List ℕ) (from c i : ℕ) → i < length s → get_or s i 0 ≡ c → index_of s from c ≡ index_of s i c → i ≡ index_of s from c
+unfolding index_of up_to
+index_hit s from c i h q e = sym (e ∙ rw (drop-cons s i 0 h, eq-eqb (get_or s i 0) c q) (omega arith))
+
+pub index_miss : (s : List ℕ) (from c i : ℕ) → i < length s → (get_or s i 0 ≡ c → ⊥) → index_of s from c ≡ index_of s i c → index_of s from c ≡ index_of s (i + 1) c
+unfolding index_of up_to
+index_miss s from c i h q e = rw add-one (e ∙ rw (drop-cons s i 0 h, ne_eqb (get_or s i 0) c q) (omega arith))
+
+pub index_none : (s : List ℕ) (from c i : ℕ) → length s ≤ i → index_of s from c ≡ index_of s i c → i ≡ index_of s from c
+unfolding index_of up_to
+index_none s from c i h e = sym (e ∙ rw (drop_of_length-le s {i = i} h) (omega arith))
+
+-- the front ends there
+pub front_index : (s f : List ℕ) (c : ℕ) → f ≡ up_to c s → length f ≡ index_of s 0 c
+unfolding index_of
+front_index s f c e = ap length e ∙ sym (zero-add (length (up_to c s)))
+
 -- ---- pieces, and where a word starts
 
 pub pieces_next : (c : ℕ) (l : List ℕ) → 0 < length l → pieces c l ≡ up_to c l ∷ pieces c (behind c l)
@@ -79,6 +98,9 @@ word_none s = refl
 pub word_more : (s r x : List ℕ) (n : ℕ) → r ≡ from_word s n → x ≡ behind 32 r → x ≡ from_word s (n + 1)
 unfolding from_word
 word_more s r x n e q = rw add-one (q ∙ ap (behind 32) e)
+
+pub from_done : (s : List ℕ) (at n k : ℕ) → n ≤ k → k ≤ n → drop at s ≡ from_word s n → drop at s ≡ from_word s k
+from_done s at n k h l e = e ∙ ap (from_word s) (le_antisymm h l)
 
 -- ---- the loop that reads a number
 

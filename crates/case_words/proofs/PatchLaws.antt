@@ -1,6 +1,6 @@
 -- What is proved of the definitions in specs/Patch.antt. Assumes nothing.
 use mathlib.Core.Path.{◌≡◌, refl, sym, ◌∙◌, ap}
-use mathlib.Core.Bool.{Bool}
+use mathlib.Core.Bool.{Bool, cond}
 use mathlib.Core.List.{List, [], ◌∷◌, ◌++◌}
 use Prim.Native.Nat.{ℕ, ◌+◌, ◌-◌, ◌*◌, ◌/◌, ◌<◌, ◌≤◌}
 use native.Mathlib.Numerals.{add-one}
@@ -12,7 +12,7 @@ use Rattle.std.specs.Prelude.{min}
 use lib.Seq.{ext_get_or, length-take-le, take_all, get_or-take, get_or-drop, take-append_seam, drop-append-add}
 use Rattle.std.proofs.lemmas.List.{length-take}
 use borrow.Author.Rules.{rules}
-use borrow.Author.Tests.{ltb-true, ltb-false}
+use borrow.Author.Tests.{ltb-true, ltb-false, lt-ltb, le-ltb}
 use Rattle.std.specs.Simd.{first_chunks}
 use Rattle.laws.specs.Choice.{by_bool}
 use Rattle.laws.specs.Splice.{splice, length_splice, stores, splice_next}
@@ -20,9 +20,23 @@ use Rattle.laws.specs.Fill.{list_to, length_list_to, get_or_list_to}
 use Rattle.case_words.specs.Fields.{number_of, pieces, behind, from_word}
 use Rattle.case_words.proofs.Chunks.{length_first_chunks, chunk_at}
 use Rattle.case_words.proofs.FieldsLaws.{words_from, pieces_words}
-use Rattle.case_words.specs.Patch.{hex_byte, byte_at, bytes_of, put, put_word, put_all, patched}
+use Rattle.case_words.specs.Patch.{hex_byte, byte_at, bytes_of, put, put_word, put_all, patched, fits}
 
 -- ---- how many fit
+
+pub fit_none : (l at n : ℕ) → l < at → 0 ≡ fits (l - at) n
+unfolding fits
+fit_none l at n h =
+    let e : l - at ≡ 0 = omega arith in
+    rw e (by_bool (λ (t : Bool). ltb 0 n ≡ t → 0 ≡ cond t 0 n) (λ p. refl) (λ p. omega (arith, ltb-false 0 n p)) (ltb 0 n) refl)
+
+pub fit_room : (m n : ℕ) → m < n → m ≡ fits m n
+unfolding fits
+fit_room m n h = rw (lt-ltb m n h)
+
+pub fit_all : (m n : ℕ) → n ≤ m → n ≡ fits m n
+unfolding fits
+fit_all m n h = rw (le-ltb m n h)
 
 take_to : (f : ℕ → ℕ) (m n : ℕ) → m ≤ n → take m (list_to f n) ≡ list_to f m
 take_to f m n h =
@@ -98,12 +112,12 @@ module _ (h : List ℕ) (chunks : List (List ℕ)) (fit j : ℕ) (cut : chunks �
       let n : length chunks ≡ length h / 2 = ap length cut ∙ length_first_chunks 2 (length h / 2) h in
       let t : length (take fit chunks) ≡ min fit (length chunks) = length-take fit chunks in
       let all : length d ≡ length front + length room = ap length e ∙ length-append front room in
-      let fits : j ≡ min (length d - at) (length h / 2) = omega (arith, n, t, all, q, b, f, l, k) in
+      let fit_here : j ≡ min (length d - at) (length h / 2) = omega (arith, n, t, all, q, b, f, l, k) in
       ap (λ (x : List ℕ). front ++ x) p
       ∙ by_bool (λ (r : Bool). ltb (length d) at ≡ r → front ++ splice room 0 (list_to (byte_at h) j) ≡ splice d at (list_to (byte_at h) j))
-      (λ y. let g : length d < at = ltb-true (length d) at y in behind_end d front room (byte_at h) at j e (omega (arith, fits, g)))
+      (λ y. let g : length d < at = ltb-true (length d) at y in behind_end d front room (byte_at h) at j e (omega (arith, fit_here, g)))
       (λ y. let g : at ≤ length d = ltb-false (length d) at y in in_room d front room (list_to (byte_at h) j) at e (omega (arith, q, b, g))) (ltb (length d) at) refl
-      ∙ ap (splice d at) (sym (take_fits (byte_at h) (length d - at) (length h / 2) j fits))
+      ∙ ap (splice d at) (sym (take_fits (byte_at h) (length d - at) (length h / 2) j fit_here))
 
 -- ---- a word, and a loop that puts words
 

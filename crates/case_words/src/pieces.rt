@@ -1,7 +1,7 @@
 // Bytes cut at the places of one byte.
-ghost use Rattle.std.specs.Prelude.{◌≡◌, ◌<◌, ◌==◌, IfSome, length, position};
+ghost use Rattle.std.specs.Prelude.{◌≡◌, ◌<◌, ◌≤◌, ◌==◌, IfSome, length, position};
 ghost use Rattle.std.specs.Iterator.{YieldsFirstRef, item_count};
-ghost use Rattle.case_words.specs.Fields.{up_to, behind, from_word, pieces};
+ghost use Rattle.case_words.specs.Fields.{up_to, behind, from_word, index_of, pieces};
 
 // Where the first `c` is.
 fn place(s: &[u8], c: u8) -> Option<usize>
@@ -12,10 +12,12 @@ fn place(s: &[u8], c: u8) -> Option<usize>
 }
 
 /// The bytes before the first `c`, and those behind it; all and none where `c` is nowhere.
-#[tactic(auto, using(crate::proofs::FieldsLaws::front_found, crate::proofs::FieldsLaws::behind_found, crate::proofs::FieldsLaws::front_none, crate::proofs::FieldsLaws::behind_none))]
+#[tactic(auto, using(crate::proofs::FieldsLaws::front_found, crate::proofs::FieldsLaws::behind_found, crate::proofs::FieldsLaws::front_none, crate::proofs::FieldsLaws::behind_none, crate::proofs::FieldsLaws::front_index))]
 pub fn cut(s: &[u8], c: u8) -> (&[u8], &[u8])
     ensures front { result.0.now ≡ up_to c s.now }
     ensures rest { result.1.now ≡ behind c s.now }
+    ensures ends { length result.0.now ≡ index_of s.now 0 c }
+    ensures within { length result.0.now ≤ length s.now }
 {
     match place(s, c) {
         Some(at) => (&s[..at], &s[at + 1..]),

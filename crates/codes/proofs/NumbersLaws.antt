@@ -1,5 +1,5 @@
 -- The number of a refusal, and the call's own number of an error, are never 0. Assumes nothing.
-use Rattle.std.proofs.Common.{◌≡◌, sym, ◌∙◌, Result, Ok, Err}
+use Rattle.std.proofs.Common.{◌≡◌}
 use native.Mathlib.Omega.{arith}
 use Rattle.codes.specs.declared.return_code.ReturnCode.{ReturnCode}
 use Rattle.codes.specs.declared.return_code.ReturnCode.TheVariants.{Failed, BadControlCode, InvalidParameter, WriteAttempted, PhyInfoNotChangeable, LinkRateOutOfRange, PhyDoesNotExist, PhyDoesNotMatchPort, SelectPhyOrPort, PortDoesNotExist, ConnectionFailed, NoSataDevice, NoSataSignature, NoScsiAddress, NoDeviceAddress}

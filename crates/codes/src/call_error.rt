@@ -5,15 +5,15 @@ ghost use Rattle.codes.specs.Numbers.{error_number, call_of};
 /// What was wrong with what a call was lent, under document 01's numbers ("The call's own number").
 #[derive(Clone, Copy, Debug, PartialEq, Eq, Hash)]
 pub enum CallError {
-    ShortBuffer = 100,
-    BadText = 101,
-    BadFileLength = 102,
-    BlockCheck = 103,
-    BadField = 104,
-    SharedRow = 105,
+    ShortBuffer = crate::SHORT_BUFFER as isize,
+    BadText = crate::BAD_TEXT as isize,
+    BadFileLength = crate::BAD_FILE_LENGTH as isize,
+    BlockCheck = crate::BLOCK_CHECK as isize,
+    BadField = crate::BAD_FIELD as isize,
+    SharedRow = crate::SHARED_ROW as isize,
     /// Of a medium, and of a stage.
-    BadMediumLength = 106,
-    BadState = 107,
+    BadMediumLength = crate::BAD_MEDIUM_LENGTH as isize,
+    BadState = crate::BAD_STATE as isize,
 }
 
 impl From<CallError> for u32 {

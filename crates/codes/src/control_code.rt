@@ -5,18 +5,18 @@ ghost use Rattle.codes.specs.Numbers.{control_number, control_code_of};
 /// A control code that is served, under the name and the number of section 10.
 #[derive(Clone, Copy, Debug, PartialEq, Eq, Hash)]
 pub enum ControlCode {
-    GetDriverInfo = 1,
-    GetCntlrConfig = 2,
-    GetCntlrStatus = 3,
-    FirmwareDownload = 4,
-    GetPhyInfo = 20,
-    SetPhyInfo = 21,
-    GetLinkErrors = 22,
-    StpPassthru = 25,
-    GetSataSignature = 26,
-    GetScsiAddress = 27,
-    GetDeviceAddress = 28,
-    GetConnectorInfo = 30,
+    GetDriverInfo = crate::GET_DRIVER_INFO as isize,
+    GetCntlrConfig = crate::GET_CNTLR_CONFIG as isize,
+    GetCntlrStatus = crate::GET_CNTLR_STATUS as isize,
+    FirmwareDownload = crate::FIRMWARE_DOWNLOAD as isize,
+    GetPhyInfo = crate::GET_PHY_INFO as isize,
+    SetPhyInfo = crate::SET_PHY_INFO as isize,
+    GetLinkErrors = crate::GET_LINK_ERRORS as isize,
+    StpPassthru = crate::STP_PASSTHRU as isize,
+    GetSataSignature = crate::GET_SATA_SIGNATURE as isize,
+    GetScsiAddress = crate::GET_SCSI_ADDRESS as isize,
+    GetDeviceAddress = crate::GET_DEVICE_ADDRESS as isize,
+    GetConnectorInfo = crate::GET_CONNECTOR_INFO as isize,
 }
 
 /// A number that is no control code served here.
@@ -38,18 +38,18 @@ impl TryFrom<u32> for ControlCode {
 
     fn try_from(number: u32) -> Result<ControlCode, UnknownControlCode> {
         match number {
-            1 => Ok(ControlCode::GetDriverInfo),
-            2 => Ok(ControlCode::GetCntlrConfig),
-            3 => Ok(ControlCode::GetCntlrStatus),
-            4 => Ok(ControlCode::FirmwareDownload),
-            20 => Ok(ControlCode::GetPhyInfo),
-            21 => Ok(ControlCode::SetPhyInfo),
-            22 => Ok(ControlCode::GetLinkErrors),
-            25 => Ok(ControlCode::StpPassthru),
-            26 => Ok(ControlCode::GetSataSignature),
-            27 => Ok(ControlCode::GetScsiAddress),
-            28 => Ok(ControlCode::GetDeviceAddress),
-            30 => Ok(ControlCode::GetConnectorInfo),
+            crate::GET_DRIVER_INFO => Ok(ControlCode::GetDriverInfo),
+            crate::GET_CNTLR_CONFIG => Ok(ControlCode::GetCntlrConfig),
+            crate::GET_CNTLR_STATUS => Ok(ControlCode::GetCntlrStatus),
+            crate::FIRMWARE_DOWNLOAD => Ok(ControlCode::FirmwareDownload),
+            crate::GET_PHY_INFO => Ok(ControlCode::GetPhyInfo),
+            crate::SET_PHY_INFO => Ok(ControlCode::SetPhyInfo),
+            crate::GET_LINK_ERRORS => Ok(ControlCode::GetLinkErrors),
+            crate::STP_PASSTHRU => Ok(ControlCode::StpPassthru),
+            crate::GET_SATA_SIGNATURE => Ok(ControlCode::GetSataSignature),
+            crate::GET_SCSI_ADDRESS => Ok(ControlCode::GetScsiAddress),
+            crate::GET_DEVICE_ADDRESS => Ok(ControlCode::GetDeviceAddress),
+            crate::GET_CONNECTOR_INFO => Ok(ControlCode::GetConnectorInfo),
             _ => Err(UnknownControlCode),
         }
     }

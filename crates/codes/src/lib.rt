@@ -1,4 +1,4 @@
-// The numbers of CSMI's section 10, each said once: control codes, link rates, device types, connection status, directions, return codes, and the reset of link errors with its place. The call's own numbers are document 01's.
+// The numbers of CSMI's section 10, each said once: control codes, link rates, device types, connection status, directions, return codes, and the reset of link errors with its place. The call's own numbers are document 01's. The enums take theirs from here, so that what is proved of an enum's number holds the constant too.
 #![tactic(auto)]
 
 mod call_error;
@@ -79,6 +79,8 @@ pub const INVALID_PARAMETER: u32 = 3;
 pub const WRITE_ATTEMPTED: u32 = 4;
 
 pub const PHY_INFO_CHANGED: u32 = SUCCESS;
+
+const _: () = prove!(PHY_INFO_CHANGED == SUCCESS);
 
 pub const PHY_INFO_NOT_CHANGEABLE: u32 = 2000;
 

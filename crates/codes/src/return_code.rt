@@ -8,21 +8,21 @@ use crate::UnknownControlCode;
 /// A refusal, under the name and the number of section 10. A request that is done writes `SUCCESS`, which is no refusal.
 #[derive(Clone, Copy, Debug, PartialEq, Eq, Hash)]
 pub enum ReturnCode {
-    Failed = 1,
-    BadControlCode = 2,
-    InvalidParameter = 3,
-    WriteAttempted = 4,
-    PhyInfoNotChangeable = 2000,
-    LinkRateOutOfRange = 2001,
-    PhyDoesNotExist = 2002,
-    PhyDoesNotMatchPort = 2003,
-    SelectPhyOrPort = 2005,
-    PortDoesNotExist = 2006,
-    ConnectionFailed = 2008,
-    NoSataDevice = 2009,
-    NoSataSignature = 2010,
-    NoScsiAddress = 2013,
-    NoDeviceAddress = 2014,
+    Failed = crate::FAILED as isize,
+    BadControlCode = crate::BAD_CONTROL_CODE as isize,
+    InvalidParameter = crate::INVALID_PARAMETER as isize,
+    WriteAttempted = crate::WRITE_ATTEMPTED as isize,
+    PhyInfoNotChangeable = crate::PHY_INFO_NOT_CHANGEABLE as isize,
+    LinkRateOutOfRange = crate::LINK_RATE_OUT_OF_RANGE as isize,
+    PhyDoesNotExist = crate::PHY_DOES_NOT_EXIST as isize,
+    PhyDoesNotMatchPort = crate::PHY_DOES_NOT_MATCH_PORT as isize,
+    SelectPhyOrPort = crate::SELECT_PHY_OR_PORT as isize,
+    PortDoesNotExist = crate::PORT_DOES_NOT_EXIST as isize,
+    ConnectionFailed = crate::CONNECTION_FAILED as isize,
+    NoSataDevice = crate::NO_SATA_DEVICE as isize,
+    NoSataSignature = crate::NO_SATA_SIGNATURE as isize,
+    NoScsiAddress = crate::NO_SCSI_ADDRESS as isize,
+    NoDeviceAddress = crate::NO_DEVICE_ADDRESS as isize,
 }
 
 impl From<ReturnCode> for u32 {

@@ -1,2 +1,3 @@
 -- The laws that the proofs of this crate and of the crates above cite.
 pub mod SameLaws
+pub mod WordsLaws

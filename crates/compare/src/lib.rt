@@ -5,7 +5,7 @@ ghost use Rattle.std.specs.Prelude.{◌≡◌, ◌+◌, ◌≤◌, length};
 ghost use Rattle.laws.specs.Splice.{part};
 ghost use Rattle.compare.specs.Same.{same_bytes};
 
-use numbers::array;
+use numbers::read32;
 
 /// The bytes of `text` stand in `s` from index `at` on.
 #[tactic(auto, using(crate::proofs::SameLaws::same_front, crate::proofs::SameLaws::same_past))]
@@ -26,28 +26,24 @@ pub fn same(a: &[u8], b: &[u8]) -> bool
     a == b
 }
 
-/// The `N` bytes of `s` and of `t` at two indices are the same.
-#[tactic(auto, using(crate::proofs::SameLaws::same_pointwise))]
-fn same_part<const N: usize>(s: &[u8], at: usize, t: &[u8], from: usize) -> bool
-    requires { (at + N ≤ length s.now) × (from + N ≤ length t.now) }
-    ensures { result ≡ same_bytes (part s.now at N) (part t.now from N) }
-{
-    // As arrays: `==` of the two slices takes 66 instructions for 16 bytes, this 25.
-    array::<N>(s, at) == array::<N>(t, from)
-}
-
 /// The four bytes of `s` and of `t` at two indices are the same.
+#[tactic(auto, using(crate::proofs::WordsLaws::words_same))]
 pub fn same4(s: &[u8], at: usize, t: &[u8], from: usize) -> bool
     requires { (at + 4 ≤ length s.now) × (from + 4 ≤ length t.now) }
     ensures { result ≡ same_bytes (part s.now at 4) (part t.now from 4) }
 {
-    same_part::<4>(s, at, t, from)
+    read32(s, at) == read32(t, from)
 }
 
 /// The 16 bytes.
+// By words and with `&`: `==` of two arrays is a test of each byte.
+#[tactic(auto, using(crate::proofs::WordsLaws::sixteen_same))]
 pub fn same16(s: &[u8], at: usize, t: &[u8], from: usize) -> bool
     requires { (at + 16 ≤ length s.now) × (from + 16 ≤ length t.now) }
     ensures { result ≡ same_bytes (part s.now at 16) (part t.now from 16) }
 {
-    same_part::<16>(s, at, t, from)
+    same4(s, at, t, from)
+        & same4(s, at + 4, t, from + 4)
+        & same4(s, at + 8, t, from + 8)
+        & same4(s, at + 12, t, from + 12)
 }

@@ -3,6 +3,7 @@ use mathlib.Core.Path.{◌≡◌, refl, sym, ◌∙◌, ap}
 use mathlib.Core.Bool.{Bool, true, ◌&&◌}
 use mathlib.Core.List.{List}
 use Prim.Native.Nat.{ℕ, ◌<◌}
+use native.Mathlib.Omega.{arith}
 use lib.Dec.{eqb, ltb}
 use lib.ListN.{get_or}
 use mir.Syntax.{w8}
@@ -28,14 +29,19 @@ last_byte : list_to (λ (v : ℕ). eqb v 0) 256 ≡ list_to (λ (v : ℕ). bits_
 unfolding list_to bits_within all_to only_bit
 last_byte = refl
 
-pub pinout_bounds : (c : List ℕ) → ((i : ℕ) → Fits w8 (get_or c i 0))
+pub pinout_bounds : (c : List ℕ) → ((i : ℕ) → i < 4 → get_or c i 0 < 256)
     → ltb (get_or c 0 0) 4 && ltb (get_or c 1 0) 16 && ltb (get_or c 2 0) 16 && eqb (get_or c 3 0) 0 ≡ pinout_holds c
 unfolding pinout_holds all_to bytes
 pinout_bounds c h =
     rw (
-      by_table (λ (v : ℕ). ltb v 4) (λ (v : ℕ). bits_within v 3) (get_or c 0 0) (h 0).fits first_byte,
-      by_table (λ (v : ℕ). ltb v 16) (λ (v : ℕ). bits_within v 15) (get_or c 1 0) (h 1).fits lanes_byte,
-      by_table (λ (v : ℕ). ltb v 16) (λ (v : ℕ). bits_within v 15) (get_or c 2 0) (h 2).fits lanes_byte,
-      by_table (λ (v : ℕ). eqb v 0) (λ (v : ℕ). bits_within v 0) (get_or c 3 0) (h 3).fits last_byte,
+      by_table (λ (v : ℕ). ltb v 4) (λ (v : ℕ). bits_within v 3) (get_or c 0 0) (h 0 (omega arith)) first_byte,
+      by_table (λ (v : ℕ). ltb v 16) (λ (v : ℕ). bits_within v 15) (get_or c 1 0) (h 1 (omega arith)) lanes_byte,
+      by_table (λ (v : ℕ). ltb v 16) (λ (v : ℕ). bits_within v 15) (get_or c 2 0) (h 2 (omega arith)) lanes_byte,
+      by_table (λ (v : ℕ). eqb v 0) (λ (v : ℕ). bits_within v 0) (get_or c 3 0) (h 3 (omega arith)) last_byte,
     )
     refl
+
+-- the same, with what is known of an array's elements
+pub pinout_fits : (c : List ℕ) → ((i : ℕ) → Fits w8 (get_or c i 0))
+    → ltb (get_or c 0 0) 4 && ltb (get_or c 1 0) 16 && ltb (get_or c 2 0) 16 && eqb (get_or c 3 0) 0 ≡ pinout_holds c
+pinout_fits c h = pinout_bounds c (λ i l. (h i).fits)

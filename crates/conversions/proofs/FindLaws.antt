@@ -1,12 +1,14 @@
 -- What std finds among the first of some rows, by the index that the rows' definitions give, and what is put of a row. Assumes nothing.
-use Rattle.std.proofs.Common.{◌≡◌, refl, sym, ◌∙◌, ap, subst, ℕ, zero, suc, ◌+◌, ◌<◌, ◌≤◌, Bool, true, false, cond, List, ◌∷◌, length, take, drop, Option, Some, None, arith, drop-cons}
+use Rattle.std.proofs.Common.{◌≡◌, refl, sym, ◌∙◌, ap, subst, ℕ, zero, suc, ◌+◌, ◌<◌, ◌≤◌, Bool, false, cond, List, [], ◌∷◌, length, get_or, take, drop, Option, Some, None, arith, drop-cons}
 use Rattle.std.specs.List.{position_or_len}
 use lib.Dec.{ltb}
 use borrow.Author.Tests.{ltb-true, ltb-false}
 use Rattle.std.proofs.lemmas.List.{take-map, length-map, length-take-le}
 use Rattle.laws.specs.Choice.{by_bool}
 use Rattle.laws.specs.First.{first, first_from}
-use Rattle.laws.specs.Splice.{splice}
+use Rattle.laws.specs.Splice.{part, splice, part_all, get_or_part}
+use Rattle.wire.specs.Same.{same_bytes}
+use Rattle.wire.proofs.SameLaws.{ne_same}
 use Rattle.rows.specs.Row.{Row, row_of, no_row, row_at}
 use Rattle.rows.specs.declared.Row.{Row as Held}
 use Rattle.rows.specs.Read.{rows_in, row_held}
@@ -41,6 +43,36 @@ found_in p chunks rows a e h =
     let l : length rows ≡ length chunks = rw (← e) (length-map chunks (λ chunk. row_of chunk 0)) in
     let t : rows_in (take a chunks) ≡ take a rows = rw (← take-map, e) refl in
     rw (t, place_first p rows a (rw l h), length-take-le a rows (rw l h)) refl
+
+-- in chunks, a row is tested where it stands
+position_rows : (p : Row → Bool) (chunks : List (List ℕ)) → position_or_len (λ chunk. p (row_of chunk 0)) chunks ≡ position_or_len p (rows_in chunks)
+position_rows p [] = refl
+position_rows p (x ∷ xs) = rw (position_rows p xs) refl
+
+pub found_chunks : (p : Row → Bool) (chunks : List (List ℕ)) (rows : List Row) (a : ℕ) → rows_in chunks ≡ rows → a ≤ length chunks
+    → cond (ltb (position_or_len (λ chunk. p (row_of chunk 0)) (take a chunks)) (length (take a chunks))) (Some (position_or_len (λ chunk. p (row_of chunk 0)) (take a chunks))) None
+    ≡ found a (first (λ j. p (row_at rows j)) a)
+found_chunks p chunks rows a e h =
+    let l : length (rows_in (take a chunks)) ≡ length (take a chunks) = length-map (take a chunks) (λ chunk. row_of chunk 0) in
+    rw (position_rows p (take a chunks), ← l) (found_in p chunks rows a e h)
+
+-- what the tests of a row where it stands say of it
+pub sas_told : (l m : List ℕ) (r : Bool) → length m ≡ 16 → r ≡ same_bytes (part l 0 16) (part m 0 16) → r ≡ same_bytes (row_of l 0).sas m
+unfolding row_of
+sas_told l m r q e = e ∙ ap (same_bytes (part l 0 16)) (ap (part m 0) (sym q) ∙ part_all m)
+
+pub os_told : (l m : List ℕ) (r : Bool) → length m ≡ 4 → r ≡ same_bytes (part l 16 4) (part m 0 4) → r ≡ same_bytes (row_of l 0).os m
+unfolding row_of
+os_told l m r q e = e ∙ ap (same_bytes (part l 16 4)) (ap (part m 0) (sym q) ∙ part_all m)
+
+-- two that differ in the byte that is compared first
+pub sas_unlike : (l m : List ℕ) → (get_or l 7 0 ≡ get_or m 7 0 → ⊥) → same_bytes (row_of l 0).sas m ≡ false
+unfolding row_of
+sas_unlike l m h = ne_same (part l 0 16) m (λ e. h (sym (get_or_part l 0 16 7 0 (omega arith)) ∙ ap (λ (x : List ℕ). get_or x 7 0) e))
+
+pub os_unlike : (l m : List ℕ) → (get_or l 18 0 ≡ get_or m 2 0 → ⊥) → same_bytes (row_of l 0).os m ≡ false
+unfolding row_of
+os_unlike l m h = ne_same (part l 16 4) m (λ e. h (sym (get_or_part l 16 4 2 0 (omega arith)) ∙ ap (λ (x : List ℕ). get_or x 2 0) e))
 
 -- ---- what the index says
 

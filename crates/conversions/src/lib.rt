@@ -4,11 +4,29 @@
 
 ghost use Rattle.std.specs.Prelude.{◌≡◌, ◌+◌, ◌<◌, ◌≤◌, length};
 ghost use Rattle.laws.specs.Splice.{splice};
-ghost use Rattle.rows.specs.Row.{rows_of, row_at, sas_index, os_index};
+ghost use Rattle.wire.specs.Same.{same_bytes};
+ghost use Rattle.rows.specs.Row.{row_of, rows_of, row_at, sas_index, os_index};
 ghost use Rattle.rows.specs.Read.{row_held};
 ghost use Rattle.conversions.specs.Found.{found};
 
-use rows::{Row, as_rows};
+use rows::{ROW_SIZE, Row, as_rows};
+
+// A row of 20 bytes has this SAS address and LUN, told where it stands. The last byte of the address,
+// which seldom is the same, is compared first.
+#[tactic(auto, using(crate::proofs::FindLaws::sas_told, crate::proofs::FindLaws::sas_unlike))]
+fn has_sas(row: &[u8; ROW_SIZE], sas: &[u8; 16]) -> bool
+    ensures { result ≡ same_bytes (row_of row.now 0).sas sas.now }
+{
+    row[7] == sas[7] && wire::same16(row, 0, sas, 0)
+}
+
+// It has these four OS bytes. The target is compared first.
+#[tactic(auto, using(crate::proofs::FindLaws::os_told, crate::proofs::FindLaws::os_unlike))]
+fn has_os(row: &[u8; ROW_SIZE], os: &[u8; 4]) -> bool
+    ensures { result ≡ same_bytes (row_of row.now 0).os os.now }
+{
+    row[18] == os[2] && wire::same4(row, 16, os, 0)
+}
 
 // The two differ in the test alone, which std's `position` takes: a function over that test, with a
 // contract over any closure, is no plainer.
@@ -21,8 +39,7 @@ pub fn find_sas(rows: &[u8; rows::SIZE], a: usize, sas: &[u8; 16]) -> Option<usi
     as_rows(rows)
         .iter()
         .take(a)
-        .map(Row::from_bytes)
-        .position(|row| row.has_sas(sas))
+        .position(|row| has_sas(row, sas))
 }
 
 /// The index of the first of `a` rows that has these four OS bytes.
@@ -30,11 +47,7 @@ pub fn find_os(rows: &[u8; rows::SIZE], a: usize, os: &[u8; 4]) -> Option<usize>
     requires { a ≤ 64 }
     ensures { result ≡ found a (os_index (rows_of rows.now) a os.now) }
 {
-    as_rows(rows)
-        .iter()
-        .take(a)
-        .map(Row::from_bytes)
-        .position(|row| row.has_os(os))
+    as_rows(rows).iter().take(a).position(|row| has_os(row, os))
 }
 
 // Row i.

@@ -1,12 +1,19 @@
--- What a success of 20h, 30h or ECh says of the request. Assumes nothing.
+-- When two performances are the same, and what a success says of the request. Assumes nothing.
 use mathlib.Core.Path.{◌≡◌, refl, ◌∙◌, ap}
 use mathlib.Core.Bool.{Bool, true, false, cond}
+use mathlib.Core.List.{List}
 use Prim.Native.Nat.{ℕ, ◌+◌, ◌*◌, ◌≤◌}
 use native.Mathlib.Omega.{arith}
 use lib.Dec.{ltb}
 use borrow.Author.Tests.{ltb-false}
 use Rattle.laws.specs.Choice.{came_then, came_else}
-use Rattle.disk.specs.Disk.{Answer, succeeds, fails, transfer, answer_by}
+use Rattle.disk.specs.Disk.{Answer, performs, succeeds, fails, transfer, answer_by}
+
+-- two that agree in disk and body
+pub performs_by : (code : ℕ) (disk disk' body body' : List ℕ) → disk ≡ disk' → body ≡ body' → performs code disk body ≡ performs code disk' body'
+performs_by code disk disk' body body' p q = rw (p, q)
+
+-- ---- what a success of 20h, 30h or ECh says of the request
 
 -- the answer is not 51h, so it is 50h
 abbrev pub Succeeds : Answer → Type 0
@@ -53,3 +60,5 @@ module _ (a : Answer) (command : ℕ) (addressed : Bool) (lba count : ℕ) (e : 
   identify_room m n q k l =
       let p : a.moved ≡ 512 = ap (λ (x : Answer). x.moved) (rw q at e) in
       omega arith
+
+pub ruleset rooms = (read_transfers, write_transfers, sectors_inside, sectors_room, identify_room)

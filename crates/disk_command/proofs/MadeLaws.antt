@@ -1,8 +1,7 @@
 -- What a reply's body holds, from what the code wrote of it. Assumes nothing.
-use mathlib.Core.Path.{◌≡◌, refl, ◌∙◌, ap}
+use mathlib.Core.Path.{◌≡◌, refl, sym, ◌∙◌, ap}
 use mathlib.Core.List.{List, [], ◌∷◌, ◌++◌}
 use Prim.Native.Nat.{ℕ, ◌+◌, ◌-◌, ◌*◌, ◌/◌, ◌<◌, ◌≤◌}
-use native.Mathlib.Nat.{add-sub_cancel_left}
 use native.Mathlib.Omega.{arith}
 use Rattle.std.proofs.Common.{lt-ltb, le-ltb, eq-eqb, ne_eqb}
 use lib.ListN.{length, set, take, drop, replicate}
@@ -10,7 +9,7 @@ use lib.Seq.{drop-cons, take-take}
 use borrow.Rule.Slice.PartMut.{put_mid, mid_of}
 use Rattle.std.specs.Prelude.{Result, Ok, Err}
 use Rattle.std.specs.Int.{w32, to_le_bytes}
-use Rattle.laws.specs.Splice.{part, splice, length_part, length_splice, drop_take, lent_back}
+use Rattle.laws.specs.Splice.{part, splice, part_all, length_splice, drop_take, lent_back}
 use Rattle.wire.specs.Number.{bytes}
 use Rattle.stp.specs.Body.{fis, data_length}
 use Rattle.disk.specs.declared.AtaCommand.{AtaCommand}
@@ -57,7 +56,13 @@ status_left body front zeros ten four back twelve r a b h f k p q e t g =
     let v : ℕ = byte_twelve r.command (fis body 12) in
     rw (m, f, k, t, g) (lent_back body 44 92 (status_of body v b) (length_status body v b))
 
+pub data_by : (before body d s : List ℕ) (at : ℕ) → before ≡ body → d ≡ splice before at s → d ≡ splice body at s
+data_by before body d s at p e = rw p at e
+
 -- ---- the whole
+
+pub acted_by : (x : Performed) (disk body : List ℕ) (r : AtaCommand) (a : Answer) → a ≡ answer_to r → x ≡ acted disk body r a → x ≡ acted disk body r (answer_to r)
+acted_by x disk body r a p e = rw p at e
 
 length_with : (body : List ℕ) (r : AtaCommand) (a : Answer) → 136 ≤ length body → length (with_status body r a) ≡ length body
 unfolding with_status
@@ -65,9 +70,10 @@ length_with body r a h =
     let v : ℕ = byte_twelve r.command (fis body 12) in
     length_splice body 44 (status_of body v a) (rw (length_status body v a) (omega arith))
 
--- a part that was lent and given back as x
-lent_part : (l x s : List ℕ) (at n : ℕ) → length s ≡ n → x ≡ s → put_mid at (at + n - at) l x ≡ splice l at s
-lent_part l x s at n h q = rw (add-sub_cancel_left, q) (lent_back l at n s h)
+pub identify_long : (z : List ℕ) → z ≡ identify → 512 ≤ length z
+identify_long z p =
+    let e : length z ≡ 512 = ap length p ∙ length_identify in
+    omega arith
 
 -- what the code has of a request: what it asks, and what the disk answers
 module _ (disk body : List ℕ) (r : AtaCommand) (x : Result ℕ AtaError) (q : r ≡ ata_command body) (g : answer_said x ≡ answer_to r) where
@@ -106,11 +112,11 @@ module _ (disk body : List ℕ) (r : AtaCommand) (x : Result ℕ AtaError) (q : 
         let e : succeeds m ≡ answer_to r = rw i at g in
         ap (λ (a : Answer). a.moved) (rw c at e)
 
-    pub read_ends : r.command ≡ 0x20 → 512 * r.lba + m ≤ 8192
-    read_ends c = omega (arith, reads c)
+    pub read_ends : length disk ≡ 8192 → r.command ≡ 0x20 → 512 * r.lba + m ≤ length disk
+    read_ends d c = omega (arith, reads c)
 
-    pub write_ends : r.command ≡ 0x30 → 512 * r.lba + m ≤ 8192
-    write_ends c = omega (arith, writes c)
+    pub write_ends : length disk ≡ 8192 → r.command ≡ 0x30 → 512 * r.lba + m ≤ length disk
+    write_ends d c = omega (arith, writes c)
 
     module _ (k : m ≤ r.data_length) (h : 136 + data_length body ≤ length body) where
       pub data_ends : 136 + m ≤ length body
@@ -126,31 +132,27 @@ module _ (disk body : List ℕ) (r : AtaCommand) (x : Result ℕ AtaError) (q : 
         pub identify_ends : r.command ≡ 0xec → 136 + 512 ≤ length left
         identify_ends c = omega (arith, left_ends, identify_moves c)
 
-        pub read_left : (y : List ℕ) → length disk ≡ 8192 → r.command ≡ 0x20 → y ≡ take (512 * r.lba + m - 512 * r.lba) (drop (512 * r.lba) disk)
-            → performs success disk (put_mid 136 (136 + m - 136) left y) ≡ performed disk body
-        unfolding acted part
-        read_left y d c p =
-            let v = reads c in
-            let e : y ≡ sectors disk r = p ∙ rw (add-sub_cancel_left, ← v.1) refl in
-            let l : length (sectors disk r) ≡ m = rw v.1 (length_part disk (512 * r.lba) (512 * r.count) (omega (arith, v.0))) in
-            acted_is (succeeds m) _ is_success (rw (le-ltb r.data_length m k, eq-eqb r.command 0x20 c, lent_part left y (sectors disk r) 136 m l e, s) refl)
-
-        pub identified_left : (y z : List ℕ) → r.command ≡ 0xec → z ≡ identify → y ≡ z → performs success disk (put_mid 136 512 left y) ≡ performed disk body
+        pub read_left : (y : List ℕ) → r.command ≡ 0x20 → y ≡ splice left 136 (part disk (512 * r.lba) m) → performs success disk y ≡ performed disk body
         unfolding acted
-        identified_left y z c p e =
-            acted_is (succeeds m) _ is_success
-            (rw (le-ltb r.data_length m k, ne_eqb r.command 0x20 (λ z. omega arith), eq-eqb r.command 0xec c, lent_part left y identify 136 512 length_identify (e ∙ p), s) refl)
+        read_left y c p =
+            let v = reads c in
+            let e : part disk (512 * r.lba) m ≡ sectors disk r = rw v.1 refl in
+            acted_is (succeeds m) _ is_success (rw (le-ltb r.data_length m k, eq-eqb r.command 0x20 c, p, e, s) refl)
 
-        pub written_left : (y : List ℕ) → length disk ≡ 8192 → r.command ≡ 0x30 → y ≡ take (136 + m - 136) (drop 136 body)
-            → performs success (put_mid (512 * r.lba) (512 * r.lba + m - 512 * r.lba) disk y) left ≡ performed disk body
-        unfolding acted part
-        written_left y d c p =
-            let v = writes c in
-            let sent : List ℕ = part body 136 (512 * r.count) in
-            let e : y ≡ sent = p ∙ rw (add-sub_cancel_left, ← v.1) refl in
-            let l : length sent ≡ m = rw v.1 (length_part body 136 (512 * r.count) (omega (arith, v.1, data_ends))) in
+        pub identified_left : (y z : List ℕ) → r.command ≡ 0xec → z ≡ identify → y ≡ splice left 136 (part z 0 512) → performs success disk y ≡ performed disk body
+        unfolding acted
+        identified_left y z c p q =
+            let e : part z 0 512 ≡ identify = ap (λ (x : List ℕ). part x 0 512) p ∙ ap (part identify 0) (sym length_identify) ∙ part_all identify in
             acted_is (succeeds m) _ is_success
-            (rw (le-ltb r.data_length m k, ne_eqb r.command 0x20 (λ z. omega arith), ne_eqb r.command 0xec (λ z. omega arith), eq-eqb r.command 0x30 c, lent_part disk y sent (512 * r.lba) m l e, s) refl)
+            (rw (le-ltb r.data_length m k, ne_eqb r.command 0x20 (λ z. omega arith), eq-eqb r.command 0xec c, q, e, s) refl)
+
+        pub written_left : (y : List ℕ) → r.command ≡ 0x30 → y ≡ splice disk (512 * r.lba) (part body 136 m) → performs success y left ≡ performed disk body
+        unfolding acted
+        written_left y c p =
+            let v = writes c in
+            let e : part body 136 m ≡ part body 136 (512 * r.count) = rw v.1 refl in
+            acted_is (succeeds m) _ is_success
+            (rw (le-ltb r.data_length m k, ne_eqb r.command 0x20 (λ z. omega arith), ne_eqb r.command 0xec (λ z. omega arith), eq-eqb r.command 0x30 c, p, e, s) refl)
 
         pub plain_left : (r.command ≡ 0x20 → ⊥) → (r.command ≡ 0x30 → ⊥) → (r.command ≡ 0xec → ⊥) → performs success disk left ≡ performed disk body
         unfolding acted
@@ -158,4 +160,4 @@ module _ (disk body : List ℕ) (r : AtaCommand) (x : Result ℕ AtaError) (q : 
             acted_is (succeeds m) (performs success disk left) is_success
             (rw (le-ltb r.data_length m k, ne_eqb r.command 0x20 a, ne_eqb r.command 0xec c, ne_eqb r.command 0x30 b, s) refl)
 
-pub ruleset left = (failed_left, refused_left, read_ends, write_ends, data_ends, left_ends, identify_ends, read_left, identified_left, written_left, plain_left)
+pub ruleset left = (failed_left, refused_left, read_ends, write_ends, data_ends, left_ends, identify_ends, identify_long, read_left, identified_left, written_left, plain_left)

@@ -33,15 +33,16 @@ pub fn command(disk: &mut [u8; disk::SIZE], body: &mut [u8]) -> Result<(), Retur
     match asked.command {
         READ_SECTORS => {
             put_status(body, asked, answer);
-            body[stp::DATA..stp::DATA + bytes].copy_from_slice(&disk[at..at + bytes]);
+            wire::copy_part(body, stp::DATA, disk, at, bytes);
         }
         WRITE_SECTORS => {
-            disk[at..at + bytes].copy_from_slice(&body[stp::DATA..stp::DATA + bytes]);
+            wire::copy_part(disk, at, body, stp::DATA, bytes);
             put_status(body, asked, answer);
         }
         IDENTIFY_DEVICE => {
             put_status(body, asked, answer);
-            body[stp::DATA..stp::DATA + SECTOR_SIZE].copy_from_slice(&identify());
+            let words = identify();
+            wire::copy_part(body, stp::DATA, &words, 0, SECTOR_SIZE);
         }
         _ => put_status(body, asked, answer),
     }

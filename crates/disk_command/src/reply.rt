@@ -39,7 +39,7 @@ pub fn identify() -> [u8; SECTOR_SIZE]
     ensures { result ≡ identify }
 {
     let mut words = [0; SECTOR_SIZE];
-    words[98..100].copy_from_slice(&0x0200u16.to_le_bytes());
-    words[120..122].copy_from_slice(&16u16.to_le_bytes());
+    wire::write16(&mut words, 98, 0x0200);
+    wire::write16(&mut words, 120, 16);
     words
 }

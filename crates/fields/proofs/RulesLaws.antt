@@ -1,22 +1,23 @@
 -- What is proved of the definitions in specs/Rules.antt. Assumes nothing.
 use mathlib.Core.Path.{◌≡◌, refl, sym, ◌∙◌, ap}
-use mathlib.Core.Bool.{Bool, true, false, ◌&&◌, ◌||◌}
+use mathlib.Core.Bool.{Bool, true, false, cond, ◌&&◌, ◌||◌, and_assoc}
 use mathlib.Core.List.{List}
 use Prim.Native.Nat.{ℕ, ◌%◌, ◌<◌, ◌≤◌}
 use native.Mathlib.Omega.{arith}
 use lib.Dec.{eqb, leb}
 use lib.ListN.{length}
-use borrow.Author.Tests.{eqb-true, eqb-false, eq-eqb, leb-true, le-leb}
+use borrow.Author.Tests.{eqb-true, eqb-false, eq-eqb, ne_eqb, leb-true, le-leb, lt-leb}
 use Rattle.laws.specs.All.{all_to}
 use Rattle.laws.specs.Choice.{and_true, and_false, both_left, both_right, by_bool}
 use Rattle.laws.specs.Splice.{part, part_all}
 use Rattle.wire.specs.Number.{number}
 use Rattle.wire.specs.Same.{same_bytes, all_zero}
 use Rattle.phy.specs.declared.Phy.{Phy}
+use Rattle.phy.specs.declared.PhyIdentifier.{PhyIdentifier}
 use Rattle.phy.specs.Block.{counters_at, phy_of, zero_phy}
 use Rattle.codes.specs.Codes.{end_device}
 use Rattle.phy.specs.Entity.{byte_of, protocols_place, attached_of, attached_type, no_device, is_sata}
-use Rattle.fields.specs.Rules.{is_rate, in_range, range_holds, empty_holds, device_holds, attached_hold, held_signature_holds, phy_zero}
+use Rattle.fields.specs.Rules.{is_rate, in_range, range_holds, identify_holds, rates_hold, empty_holds, device_holds, attached_hold, held_signature_holds, spinup_allowed, fields_hold, phy_zero}
 
 -- ---- what the code finds
 
@@ -111,6 +112,29 @@ behind false a b c = refl
 -- ---- one group of rules behind the other
 
 module _ (phy : Phy) where
+  -- whether a signature is held, and what that asks
+  pub signature_held : (r : Bool) → phy.held ≡ 1 → r ≡ is_sata phy → r ≡ leb phy.held 1 && held_signature_holds phy
+  unfolding held_signature_holds
+  signature_held r e q = rw (eq-eqb phy.held 1 e, le-leb phy.held 1 (omega arith)) q
+
+  pub signature_none : (r : Bool) → (phy.held ≡ 1 → ⊥) → r ≡ all_zero phy.signature → eqb phy.held 0 && r ≡ leb phy.held 1 && held_signature_holds phy
+  unfolding held_signature_holds
+  signature_none r d q =
+      by_bool (λ (t : Bool). eqb phy.held 0 ≡ t → t && r ≡ leb phy.held 1 && cond (eqb phy.held 1) (is_sata phy) (all_zero phy.signature))
+      (λ p. rw (eqb-true phy.held 0 p) q)
+      (λ p. let k : (phy.held ≡ 0 → ⊥) = eqb-false phy.held 0 p in
+      rw (lt-leb phy.held 1 (omega arith)) refl)
+      (eqb phy.held 0) refl
+
+  -- whether the device is held at spin_up
+  pub spinup_none : phy.spinup_hold ≡ 0 → true ≡ spinup_allowed phy
+  unfolding spinup_allowed
+  spinup_none e = rw e refl
+
+  pub spinup_some : (r : Bool) → (phy.spinup_hold ≡ 0 → ⊥) → r ≡ is_sata phy → eqb phy.spinup_hold 1 && r ≡ spinup_allowed phy
+  unfolding spinup_allowed
+  spinup_some r d q = rw (ne_eqb phy.spinup_hold 0 d, q) refl
+
   -- where nothing is attached the rest follows, but for bytes 101 and 104
   empty_rest : empty_holds phy && leb phy.held 1 && held_signature_holds phy ≡ empty_holds phy
   unfolding empty_holds held_signature_holds
@@ -120,10 +144,15 @@ module _ (phy : Phy) where
       (λ h. let t = five_hold (all_zero (attached_of phy)) (all_zero phy.signature) (eqb phy.held 0) (eqb phy.lowest 0) (eqb phy.highest 0) h in
       rw (h, eqb-true phy.held 0 t.2, t.1) refl)
 
-  -- nothing attached
+  -- nothing attached, and a device attached
   pub nothing_attached : (r : Bool) → no_device phy ≡ true → r ≡ empty_holds phy → r ≡ attached_hold phy && leb phy.held 1 && held_signature_holds phy
   unfolding attached_hold
   nothing_attached r e q = q ∙ rw e (sym empty_rest)
+
+  pub device_attached : (r : Bool) → no_device phy ≡ false → r ≡ device_holds phy && (leb phy.held 1 && held_signature_holds phy)
+      → r ≡ attached_hold phy && leb phy.held 1 && held_signature_holds phy
+  unfolding attached_hold
+  device_attached r e q = q ∙ rw e (sym (and_assoc (device_holds phy) (leb phy.held 1) (held_signature_holds phy)))
 
   -- a signature held: a SATA device is one, and of a device its rates are left
   sata_rest : attached_hold phy && is_sata phy ≡ is_sata phy && is_rate phy.lowest && is_rate phy.highest && leb phy.lowest phy.highest
@@ -135,16 +164,22 @@ module _ (phy : Phy) where
       rw (e, and_true) refl)
       (λ _. rw and_false refl) (is_sata phy) refl
 
-  pub signed : (r : Bool) → phy.held ≡ 1 → is_sata phy ≡ true → r ≡ is_rate phy.lowest && is_rate phy.highest && leb phy.lowest phy.highest
+  pub signed_rates : (r : Bool) → phy.held ≡ 1 → is_sata phy ≡ true → r ≡ is_rate phy.lowest && is_rate phy.highest && leb phy.lowest phy.highest
       → r ≡ attached_hold phy && leb phy.held 1 && held_signature_holds phy
   unfolding held_signature_holds
-  signed r h e q =
+  signed_rates r h e q =
       let t : attached_hold phy && true ≡ is_rate phy.lowest && is_rate phy.highest && leb phy.lowest phy.highest = rw e at sata_rest in
       q ∙ sym t ∙ rw (e, le-leb phy.held 1 (omega arith), eq-eqb phy.held 1 h, and_true (attached_hold phy && true)) refl
 
   pub sata_rates : (x r : Bool) → x ≡ is_sata phy → r ≡ is_rate phy.lowest && is_rate phy.highest && leb phy.lowest phy.highest
       → x && r ≡ is_sata phy && is_rate phy.lowest && is_rate phy.highest && leb phy.lowest phy.highest
   sata_rates x r e q = rw (e, q) (behind (is_sata phy) (is_rate phy.lowest) (is_rate phy.highest) (leb phy.lowest phy.highest))
+
+  -- the same with byte 101
+  pub signed : (r : Bool) → leb phy.fixed 1 ≡ true → phy.held ≡ 1 → r ≡ is_sata phy && is_rate phy.lowest && is_rate phy.highest && leb phy.lowest phy.highest
+      → r ≡ attached_hold phy && leb phy.held 1 && leb phy.fixed 1 && held_signature_holds phy
+  unfolding held_signature_holds
+  signed r e h q = q ∙ sym sata_rest ∙ rw (e, le-leb phy.held 1 (omega arith), eq-eqb phy.held 1 h, and_true, and_true) refl
 
   -- byte 101
   pub fixed_failed : leb phy.fixed 1 ≡ false → false ≡ attached_hold phy && leb phy.held 1 && leb phy.fixed 1 && held_signature_holds phy
@@ -153,6 +188,20 @@ module _ (phy : Phy) where
   pub fixed_passed : (r : Bool) → leb phy.fixed 1 ≡ true → r ≡ attached_hold phy && leb phy.held 1 && held_signature_holds phy
       → r ≡ attached_hold phy && leb phy.held 1 && leb phy.fixed 1 && held_signature_holds phy
   fixed_passed r e q = q ∙ rw (e, and_true) refl
+
+module _ (phy : Phy) (n : PhyIdentifier) (p : ℕ) where
+  pub identify_failed : identify_holds phy n p ≡ false → false ≡ fields_hold phy n p
+  unfolding fields_hold
+  identify_failed e = rw e refl
+
+  pub rates_failed : identify_holds phy n p ≡ true → rates_hold phy ≡ false → false ≡ fields_hold phy n p
+  unfolding fields_hold
+  rates_failed e f = rw (e, f) refl
+
+  pub rates_passed : (r : Bool) → identify_holds phy n p ≡ true → rates_hold phy ≡ true
+      → r ≡ attached_hold phy && leb phy.held 1 && leb phy.fixed 1 && held_signature_holds phy && spinup_allowed phy → r ≡ fields_hold phy n p
+  unfolding fields_hold
+  rates_passed r e f q = rw (e, f) q
 
 -- ---- rates that passed fit the programmed half of a byte
 

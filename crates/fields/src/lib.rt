@@ -70,7 +70,7 @@ fn device_holds(phy: Phy) -> bool
 
 // What is attached, and byte 100: a SATA phy alone holds a signature, and its bytes are 0 where
 // none is held. Where one is held the device's type is known.
-#[tactic(auto, using(crate::proofs::RulesLaws::signed, crate::proofs::RulesLaws::nothing_attached), unfolding(crate::specs::Rules::attached_hold, crate::specs::Rules::held_signature_holds))]
+#[tactic(auto, using(crate::proofs::RulesLaws::signed_rates, crate::proofs::RulesLaws::nothing_attached), unfolding(crate::specs::Rules::attached_hold, crate::specs::Rules::held_signature_holds))]
 fn attached_holds(phy: Phy) -> bool
     ensures { result ≡ (attached_hold phy && leb phy.held 1 && held_signature_holds phy) }
 {

@@ -18,7 +18,7 @@ pub fn array<const N: usize>(s: &[u8], at: usize) -> [u8; N]
 // these bodies in an impl for each width.
 
 /// The 16-bit number that stands at an index.
-#[tactic(auto, using(crate::proofs::NumberLaws::number_two))]
+#[tactic(auto, using(crate::proofs::NumberLaws::read_two))]
 pub fn read16(s: &[u8], at: usize) -> u16
     requires { at + 2 ≤ length s.now }
     ensures { result ≡ number (part s.now at 2) }
@@ -27,7 +27,7 @@ pub fn read16(s: &[u8], at: usize) -> u16
 }
 
 /// The 32-bit number that stands at an index.
-#[tactic(auto, using(crate::proofs::NumberLaws::number_four))]
+#[tactic(auto, using(crate::proofs::NumberLaws::read_four))]
 pub fn read32(s: &[u8], at: usize) -> u32
     requires { at + 4 ≤ length s.now }
     ensures { result ≡ number (part s.now at 4) }

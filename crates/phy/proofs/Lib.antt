@@ -1,5 +1,4 @@
 -- The laws that the proofs of this crate and of the crates above cite.
-pub mod AddressLaws
 pub mod BlockLaws
 pub mod KeptLaws
 pub mod ChangedLaws

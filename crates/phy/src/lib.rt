@@ -108,10 +108,10 @@ impl Phy {
     }
 
     // The attached SAS address is the given one.
-    #[tactic(auto, using(crate::proofs::AddressLaws::same_address), unfolding(crate::specs::Entity::attached_is, crate::specs::Entity::attached_address, laws::specs::Splice::part))]
+    #[tactic(auto, unfolding(crate::specs::Entity::attached_is, crate::specs::Entity::attached_address, laws::specs::Splice::part))]
     pub fn attached_is(self, address: &[u8]) -> bool
         ensures { result ≡ attached_is self address.now }
     {
-        &self.entity[ADDRESS..ADDRESS + 8] == address
+        wire::same(&self.entity[ADDRESS..ADDRESS + 8], address)
     }
 }

@@ -44,7 +44,8 @@ fn open<W: Write>(
     let of_file = digest(1, file);
     let of_medium = digest(1, medium);
     let of_state = state_digest(state);
-    write!(out, "o {call} {of_file} {of_medium} {of_state}\n")
+    out.write_all(b"o")?;
+    write!(out, " {call} {of_file} {of_medium} {of_state}\n")
 }
 
 // Byte i becomes step × (i + 1) modulo 251, so step 0 makes zeros.
@@ -96,11 +97,12 @@ fn put_request(buffer: &mut [u8], s: &[u8])
 }
 
 fn say_code<W: Write>(out: &mut W, call: u32, buffer: &[u8]) -> io::Result<()> {
+    out.write_all(b"q")?;
     if call == 0 && HEADER_SIZE <= buffer.len() {
         let code = wire::read32(buffer, RETURN_CODE);
-        write!(out, "q {call} {code}")
+        write!(out, " {call} {code}")
     } else {
-        write!(out, "q {call} -")
+        write!(out, " {call} -")
     }
 }
 
@@ -131,6 +133,8 @@ fn send<W: Write>(
     show_reply(out, call, buffer, medium, stage, state)
 }
 
+// Out of line: with its buffer of 65,536 bytes in `call_line`, every line pays for so much stack.
+#[inline(never)]
 fn request_line<W: Write>(
     out: &mut W,
     state: &mut [u8; dispatch::SIZE],

@@ -1,7 +1,7 @@
 -- Rows out of bytes ("rows of 20 bytes", document 01, "Adapter file"). Assumes nothing.
 use mathlib.Core.Path.{◌≡◌, refl, sym, ◌∙◌, ap}
-use mathlib.Core.Bool.{Bool}
-use mathlib.Core.List.{List, [], map}
+use mathlib.Core.Bool.{Bool, false}
+use mathlib.Core.List.{List, [], ◌∷◌, map}
 use Prim.Native.Nat.{ℕ, ◌+◌, ◌-◌, ◌*◌, ◌/◌, ◌<◌, ◌≤◌}
 use native.Mathlib.Omega.{arith}
 use lib.ListN.{length, get_or, take}
@@ -11,8 +11,9 @@ use Rattle.std.proofs.lemmas.List.{get_or-map, length-map, take-map}
 use Rattle.std.specs.List.{list_all}
 use Rattle.rows.specs.Read.{rows_in}
 use Rattle.rows.proofs.Chunks.{chunks_parts, map_list_to, all_first}
-use Rattle.laws.specs.Splice.{part, length_part, part_part}
-use Rattle.wire.specs.Same.{all_zero}
+use Rattle.laws.specs.Splice.{part, length_part, part_part, get_or_part}
+use Rattle.wire.specs.Same.{same_bytes, all_zero}
+use Rattle.wire.proofs.SameLaws.{ne_same}
 use Rattle.wire.proofs.ZeroLaws.{zero_split, zero_run}
 use Rattle.rows.specs.Row.{Row, row_of, rows_size, row_start, rows_of, no_row, row_at, apart, fresh, row_zero, zero_from}
 
@@ -68,6 +69,26 @@ fresh_chunk chunks i row h e =
     let l : i ≤ length (rows_in chunks) = rw length-map (omega arith) in
     rw (r, ← take-map)
     (all_first (λ (other : Row). apart other (row_at (rows_in chunks) i)) (rows_in chunks) no_row i l)
+
+-- a test of each where it stands
+all_rows : (f : Row → Bool) (chunks : List (List ℕ)) → list_all (λ (chunk : List ℕ). f (row_of chunk 0)) chunks ≡ list_all f (rows_in chunks)
+all_rows f [] = refl
+all_rows f (x ∷ xs) = rw (all_rows f xs) refl
+
+pub fresh_chunks : (chunks : List (List ℕ)) (i : ℕ) (row : Row) → i < length chunks → row ≡ row_of (get_or chunks i []) 0
+    → list_all (λ (chunk : List ℕ). apart (row_of chunk 0) row) (take i chunks) ≡ fresh (rows_in chunks) i
+fresh_chunks chunks i row h e = all_rows (λ (other : Row). apart other row) (take i chunks) ∙ fresh_chunk chunks i row h e
+
+-- two that differ in the byte that is compared first
+pub sas_pair_unlike : (l m : List ℕ) → (get_or l 7 0 ≡ get_or m 7 0 → ⊥) → same_bytes (part l 0 16) (part m 0 16) ≡ false
+sas_pair_unlike l m h =
+    ne_same (part l 0 16) (part m 0 16)
+    (λ e. h (sym (get_or_part l 0 16 7 0 (omega arith)) ∙ ap (λ (x : List ℕ). get_or x 7 0) e ∙ get_or_part m 0 16 7 0 (omega arith)))
+
+pub os_pair_unlike : (l m : List ℕ) → (get_or l 18 0 ≡ get_or m 18 0 → ⊥) → same_bytes (part l 16 4) (part m 16 4) ≡ false
+os_pair_unlike l m h =
+    ne_same (part l 16 4) (part m 16 4)
+    (λ e. h (sym (get_or_part l 16 4 2 0 (omega arith)) ∙ ap (λ (x : List ℕ). get_or x 2 0) e ∙ get_or_part m 16 4 2 0 (omega arith)))
 
 -- ---- zero from a on is a test of bytes
 

@@ -1,20 +1,39 @@
 // No two of the rows share: the rule, and how it is tested.
 ghost use Rattle.std.specs.Prelude.{◌≡◌, true, ◌+◌, ◌<◌, ◌≤◌, length};
 ghost use Rattle.laws.specs.All.{all_to};
-ghost use Rattle.rows.specs.Row.{rows_of, row_at, apart, fresh, rows_hold};
-ghost use Rattle.rows.specs.Read.{row_held, rows_in};
+ghost use Rattle.wire.specs.Same.{same_bytes};
+ghost use Rattle.rows.specs.Row.{row_of, rows_of, apart, fresh, rows_hold};
+ghost use Rattle.rows.specs.Read.{rows_in};
 ghost use Rattle.rows.specs.Seen.{folded, key, marked};
 
 use crate::{ROW_SIZE, Row, SIZE, as_rows};
 
-impl Row {
-    // The two share neither SAS address and LUN nor all four OS bytes.
-    #[tactic(auto, unfolding(crate::specs::Row::apart))]
-    fn is_apart(&self, other: &Row) -> bool
-        ensures { result ≡ apart (row_held self.now) (row_held other.now) }
-    {
-        !(self.has_sas(&other.sas) || self.has_os(&other.os))
-    }
+// Rows are compared where they stand: read as values first, all of each is loaded before its first
+// test.
+
+// Two rows have the same SAS address and LUN. The last byte of the address, which seldom is the same,
+// is compared first.
+#[tactic(auto, using(crate::proofs::ReadLaws::sas_pair_unlike), unfolding(crate::specs::Row::row_of))]
+fn same_sas(row: &[u8; ROW_SIZE], other: &[u8; ROW_SIZE]) -> bool
+    ensures { result ≡ same_bytes (row_of row.now 0).sas (row_of other.now 0).sas }
+{
+    row[7] == other[7] && wire::same16(row, 0, other, 0)
+}
+
+// Two rows have the same four OS bytes. The target is compared first.
+#[tactic(auto, using(crate::proofs::ReadLaws::os_pair_unlike), unfolding(crate::specs::Row::row_of))]
+fn same_os(row: &[u8; ROW_SIZE], other: &[u8; ROW_SIZE]) -> bool
+    ensures { result ≡ same_bytes (row_of row.now 0).os (row_of other.now 0).os }
+{
+    row[18] == other[18] && wire::same4(row, 16, other, 16)
+}
+
+// The two share neither SAS address and LUN nor all four OS bytes.
+#[tactic(auto, unfolding(crate::specs::Row::apart))]
+fn are_apart(row: &[u8; ROW_SIZE], other: &[u8; ROW_SIZE]) -> bool
+    ensures { result ≡ apart (row_of row.now 0) (row_of other.now 0) }
+{
+    !(same_sas(row, other) || same_os(row, other))
 }
 
 // Row i shares nothing with a row before it.
@@ -22,11 +41,8 @@ fn is_fresh(rows: &[[u8; ROW_SIZE]], i: usize) -> bool
     requires { i < length rows.now }
     ensures { result ≡ fresh (rows_in rows.now) i }
 {
-    let row = Row::from_bytes(&rows[i]);
-    rows[..i]
-        .iter()
-        .map(Row::from_bytes)
-        .all(|other| other.is_apart(&row))
+    let row = &rows[i];
+    rows[..i].iter().all(|other| are_apart(other, row))
 }
 
 // A number below 1,024 into which every bit of another goes.

@@ -5,7 +5,7 @@
 
 mod hold;
 
-ghost use Rattle.std.specs.Prelude.{◌≡◌, ◌<◌, ◌≤◌, length};
+ghost use Rattle.std.specs.Prelude.{◌≡◌, ◌≤◌, length};
 ghost use Rattle.wire.specs.Same.{same_bytes};
 ghost use Rattle.rows.specs.Row.{row_of, rows_of, zero_from};
 ghost use Rattle.rows.specs.Read.{row_held, rows_in};
@@ -39,29 +39,22 @@ impl Row {
         }
     }
 
-    /// Whether the row has this SAS address and LUN.
+    /// Whether the row has this SAS address and LUN. The last byte of the address, which seldom is
+    /// the same, is compared first.
+    #[tactic(auto, using(crate::proofs::EqualLaws::same_parts, crate::proofs::EqualLaws::byte_differs))]
     pub fn has_sas(&self, sas: &[u8; 16]) -> bool
         ensures { result ≡ same_bytes self.now.sas sas.now }
     {
-        same::<16, 7>(&self.sas, sas)
+        self.sas[7] == sas[7] && wire::same16(&self.sas, 0, sas, 0)
     }
 
-    /// Whether the row has these four OS bytes.
+    /// Whether the row has these four OS bytes. The target is compared first.
+    #[tactic(auto, using(crate::proofs::EqualLaws::same_parts, crate::proofs::EqualLaws::byte_differs))]
     pub fn has_os(&self, os: &[u8; 4]) -> bool
         ensures { result ≡ same_bytes self.now.os os.now }
     {
-        same::<4, 2>(&self.os, os)
+        self.os[2] == os[2] && wire::same4(&self.os, 0, os, 0)
     }
-}
-
-// Byte `FIRST`, which seldom is the same, is compared first: the last of a SAS address, and an OS
-// address's target.
-#[tactic(auto, using(crate::proofs::EqualLaws::same_pointwise, crate::proofs::EqualLaws::byte_differs))]
-fn same<const N: usize, const FIRST: usize>(a: &[u8; N], b: &[u8; N]) -> bool
-    requires { FIRST < N }
-    ensures { result ≡ same_bytes a.now b.now }
-{
-    a[FIRST] == b[FIRST] && a == b
 }
 
 /// The rows, 20 bytes each.

@@ -1,6 +1,6 @@
 -- What is proved of the definitions in specs/Laws.antt. Assumes nothing.
-use mathlib.Core.Path.{◌≡◌, refl, ap}
-use mathlib.Core.Bool.{Bool, true, ◌&&◌, not}
+use mathlib.Core.Path.{◌≡◌, refl, sym, ◌∙◌, ap}
+use mathlib.Core.Bool.{Bool, true, false, ◌&&◌, not}
 use Prim.Native.Nat.{ℕ, ◌<◌, ◌≤◌}
 use native.Mathlib.Omega.{arith}
 use lib.Dec.{eqb, leb}
@@ -10,6 +10,7 @@ use Rattle.phy.specs.declared.PhyIdentifier.{PhyIdentifier}
 use Rattle.phy.specs.declared.PortIdentifier.{PortIdentifier}
 use Rattle.adapter.specs.Adapter.{Adapter}
 use Rattle.select.specs.Select.{Selection, phy_given, port_given, selection, select_by, select_in}
+use Rattle.select.specs.Past.{selection_past}
 
 -- a phy identifier by its number
 identifier : ℕ → PhyIdentifier
@@ -19,13 +20,28 @@ pub identifier_by : (r : ℕ) (x : PhyIdentifier) → r ≡ x.0 → record { 0 =
 unfolding identifier
 identifier_by r x e = ap identifier e
 
--- the own port of a phy that does not exist does not matter
+pub selection_past_lem : (phy : PhyIdentifier) (port : PortIdentifier) (p : ℕ) (lowest : PhyIdentifier) (own : PortIdentifier) (r : Selection) → p ≤ phy.0
+    → r ≡ selection_past phy port p lowest → r ≡ selection phy port p lowest own
+unfolding selection selection_past
+selection_past_lem phy port p lowest own r h e =
+    e
+    ∙ by_bool (λ (g : Bool). phy_given phy ≡ g → selection_past phy port p lowest ≡ selection phy port p lowest own)
+    (λ g. rw (g, le-leb p phy.0 h) refl) (λ g. rw g refl) (phy_given phy) refl
+
+-- the phy's own port does not matter then
 pub selection_portful : (phy : PhyIdentifier) (port : PortIdentifier) (p : ℕ) (lowest : PhyIdentifier) (own own' : PortIdentifier) → p ≤ phy.0
     → selection phy port p lowest own ≡ selection phy port p lowest own'
-unfolding selection
 selection_portful phy port p lowest own own' h =
-    by_bool (λ (g : Bool). phy_given phy ≡ g → selection phy port p lowest own ≡ selection phy port p lowest own')
-    (λ g. rw (g, le-leb p phy.0 h) refl) (λ g. rw g refl) (phy_given phy) refl
+    sym (selection_past_lem phy port p lowest own (selection_past phy port p lowest) h refl) ∙ selection_past_lem phy port p lowest own' (selection_past phy port p lowest) h refl
+
+-- the lowest phy of a port that is not given does not matter
+pub selection_portless : (phy : PhyIdentifier) (port : PortIdentifier) (p : ℕ) (lowest lowest' : PhyIdentifier) (own : PortIdentifier) (given : Bool) (r : Selection)
+    → given ≡ port_given port → given ≡ false → r ≡ selection phy port p lowest own → r ≡ selection phy port p lowest' own
+unfolding selection
+selection_portless phy port p lowest lowest' own given r f h e =
+    e
+    ∙ by_bool (λ (g : Bool). phy_given phy ≡ g → selection phy port p lowest own ≡ selection phy port p lowest' own) (λ g. rw (g, ← f, h) refl)
+    (λ g. rw (g, ← f, h) refl) (phy_given phy) refl
 
 -- ---- a phy that was selected is below p
 

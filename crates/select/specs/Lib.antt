@@ -1,2 +1,3 @@
 pub mod Select
+pub mod Past
 pub mod Chosen

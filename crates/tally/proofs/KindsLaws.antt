@@ -9,6 +9,10 @@ use Rattle.tally.specs.declared.Line.{Line}
 use Rattle.tally.specs.Kinds.{LineKind, Granted, Denied, Otherwise, Short, is_granted, is_denied, is_short, is_otherwise, is, Partition}
 use Rattle.tally.specs.Totals.{one}
 
+-- the fourth kind, by the three tests
+pub otherwise_by : (l : Line) (a b d : Bool) → a ≡ is_granted l → b ≡ is_denied l → d ≡ is_short l → not a && (not b && not d) ≡ is_otherwise l
+otherwise_by l a b d p q r = rw (p, q, r)
+
 -- the three that the numbers show shut each other out
 granted_denied : (l : Line) → is_granted l ≡ true → is_denied l ≡ false
 granted_denied l p =

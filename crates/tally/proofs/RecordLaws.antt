@@ -26,16 +26,25 @@ use Rattle.tally.specs.Totals.{Totals, no_totals, number_of, tally_of, counted}
 use Rattle.tally.specs.Record.{line_bytes, line_at, lines_in, totals_bytes, wrote, tallied}
 use Rattle.tally.proofs.TotalsLaws.{tally_more}
 
+-- ---- a line
+
+pub line_by : (lines : List ℕ) (k call code : ℕ) → call ≡ number (part lines (8 * k) 4) → code ≡ number (part lines (8 * k + 4) 4) → line call code ≡ line_at lines k
+line_by lines k call code p q = rw (p, q)
+
 -- ---- the loop over a record's lines
 
 pub record_none : (lines : List ℕ) (t : Totals) → t ≡ no_totals → t ≡ tally_of (list_to (line_at lines) 0)
 unfolding tally_of number_of list_to
 record_none lines t e = e
 
+-- line k is within
+pub line_within : (lines : List ℕ) (n k : ℕ) → k < n → n ≡ length lines / 8 → 8 * k + 8 ≤ length lines
+line_within lines n k h e = omega arith
+
 -- as many requests as lines before it
-pub record_room : (lines : List ℕ) (t : Totals) (k n : ℕ) → t ≡ tally_of (list_to (line_at lines) k) → k < n → n < 18446744073709551616 → t.requests < 18446744073709551615
+pub record_room : (lines : List ℕ) (t : Totals) (k n m : ℕ) → t ≡ tally_of (list_to (line_at lines) k) → k < n → n ≤ m → t.requests < m
 unfolding tally_of
-record_room lines t k n e h l = rw (e, length_list_to (line_at lines) k) (omega arith)
+record_room lines t k n m e h l = rw (e, length_list_to (line_at lines) k) (omega arith)
 
 part_is : (l : List ℕ) (at n : ℕ) → part l at n ≡ take n (drop at l)
 unfolding part

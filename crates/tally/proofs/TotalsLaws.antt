@@ -1,15 +1,16 @@
 -- Counting as the lines come gives the number of lines of each kind, and these sum to the number of lines. Assumes nothing.
-use mathlib.Core.Path.{◌≡◌, refl}
-use mathlib.Core.Bool.{Bool, true}
+use mathlib.Core.Path.{◌≡◌, refl, sym}
+use mathlib.Core.Bool.{Bool, true, false}
 use mathlib.Core.List.{List, [], ◌∷◌, ◌++◌}
-use Prim.Native.Nat.{◌+◌}
+use Prim.Native.Nat.{ℕ, ◌+◌}
 use native.Mathlib.Omega.{arith}
 use lib.ListN.{length-append}
 use Rattle.laws.specs.Cases.{All}
 use Rattle.laws.specs.Runs.{shown_by}
 use Rattle.tally.specs.declared.Line.{Line}
 use Rattle.tally.specs.Kinds.{LineKind, Granted, Denied, Otherwise, Short, is}
-use Rattle.tally.specs.Totals.{Totals, totals, one, number_of, count_of, tally_of, counted, Sums, AllSum}
+use Rattle.tally.specs.Taken.{Taken, Handled}
+use Rattle.tally.specs.Totals.{Totals, totals, one, number_of, count_of, tally_of, counted, after, Sums, AllSum}
 use native.Mathlib.Nat.{add-zero}
 use Rattle.tally.proofs.KindsLaws.{counts_once}
 
@@ -53,6 +54,9 @@ module _ (t : Totals) (l : Line) where
       let d : one (is Otherwise l) ≡ 0 = omega (arith, a, counts_once l) in
       rw (a, b, c, d, add-zero t.granted, add-zero t.denied, add-zero t.otherwise) refl
 
+pub after_handled : (t r : Totals) (taken : Taken) (l : Line) → taken ≡ Handled l → r ≡ counted t l → r ≡ after t taken
+after_handled t r taken l e p = rw e p
+
 count_more : (k : LineKind) (lines : List Line) (l : Line) → count_of k (lines ++ (l ∷ [])) ≡ count_of k lines + one (is k l)
 unfolding number_of
 count_more k [] l = omega arith
@@ -62,6 +66,14 @@ pub tally_more : (lines : List Line) (l : Line) → counted (tally_of lines) l �
 unfolding tally_of counted
 tally_more lines l =
     rw (count_more Granted lines l, count_more Denied lines l, count_more Otherwise lines l, count_more Short lines l, length-append lines (l ∷ [])) refl
+
+-- ---- one total
+
+pub grown_yes : (n : ℕ) (b : Bool) → b ≡ true → n + 1 ≡ n + one b
+grown_yes n b e = rw e refl
+
+pub grown_no : (n : ℕ) (b : Bool) → b ≡ false → n ≡ n + one b
+grown_no n b e = rw e (sym (add-zero n))
 
 -- ---- the sum
 

@@ -1,9 +1,9 @@
 -- Bytes that are 0, part by part and byte by byte. Assumes nothing.
-use mathlib.Core.Path.{◌≡◌, refl, sym, ◌∙◌, ap}
+use mathlib.Core.Path.{◌≡◌, refl, sym, ◌∙◌, ap, ap₂}
 use mathlib.Core.Bool.{Bool, true, ◌&&◌, and_assoc, and-true}
 use mathlib.Core.List.{List, [], ◌∷◌, ◌++◌}
-use Prim.Native.Nat.{ℕ, zero, suc, ◌+◌, ◌*◌, ◌<◌, ◌≤◌}
-use native.Mathlib.Nat.{mul-suc, mul-zero}
+use Prim.Native.Nat.{ℕ, zero, suc, ◌+◌, ◌*◌, ◌/◌, ◌%◌, ◌<◌, ◌≤◌}
+use native.Mathlib.Nat.{mul-suc, mul-zero, le_antisymm}
 use native.Mathlib.Omega.{arith}
 use lib.Dec.{eqb}
 use lib.ListN.{length, get_or, take}
@@ -94,3 +94,27 @@ pub turns_done : (s : List ℕ) (at n i m : ℕ) → at + n ≤ length s → eqb
 turns_done s at n i m h e k = e ∙ ap all_zero (take_all i (slice_range s at (at + n)) k ∙ lent_part s at n)
 
 pub ruleset zero_loop = (turn_none, turn_more, turns_done, rules)
+
+-- ---- the loop that looks at each word
+
+pub words_none : (s : List ℕ) (at : ℕ) → true ≡ all_zero (part s at (4 * 0))
+words_none s at = sym (zero_none s at)
+
+pub words_more : (s : List ℕ) (at i m w : ℕ) → eqb m 0 ≡ all_zero (part s at (4 * i)) → w ≡ number (part s (at + 4 * i) 4)
+    → eqb (bit_or m w) 0 ≡ all_zero (part s at (4 * (i + 1)))
+words_more s at i m w e p =
+    let a : 4 * (i + 1) ≡ 4 * i + 4 = omega arith in
+    zero_or m w ∙ ap₂ (λ (t u : Bool). t && u) e (ap (λ (x : ℕ). eqb x 0) p ∙ sym (zero_number (part s (at + 4 * i) 4)))
+    ∙ sym (ap (λ (x : ℕ). all_zero (part s at x)) a ∙ zero_split s at (4 * i) 4)
+
+pub words_done : (s : List ℕ) (at i n m : ℕ) → i ≤ n → n ≤ i → eqb m 0 ≡ all_zero (part s at (4 * i)) → eqb m 0 ≡ all_zero (part s at (4 * n))
+words_done s at i n m h k e = e ∙ ap (λ (x : ℕ). all_zero (part s at (4 * x))) (le_antisymm h k)
+
+pub ruleset words_loop = (words_none, words_more, words_done, rules)
+
+-- the words, and the bytes that are left
+pub zero_by_words : (s : List ℕ) (at n : ℕ) (a b : Bool) → a ≡ all_zero (part s at (4 * (n / 4))) → b ≡ all_zero (part s (at + 4 * (n / 4)) (n % 4))
+    → a && b ≡ all_zero (part s at n)
+zero_by_words s at n a b p q =
+    let e : 4 * (n / 4) + n % 4 ≡ n = omega arith in
+    ap₂ (λ (t u : Bool). t && u) p q ∙ sym (zero_split s at (4 * (n / 4)) (n % 4)) ∙ ap (λ (x : ℕ). all_zero (part s at x)) e

@@ -7,20 +7,14 @@ returns-in_default c = search left
 pub returns-then-asked-moved : goal.returns-then-asked-moved
 returns-then-asked-moved c = search left
 
-pub slice_bounds-copy_from_slice-end : goal.slice_bounds-copy_from_slice-end
-slice_bounds-copy_from_slice-end c = search left
+pub copy_part-requires : goal.copy_part-requires
+copy_part-requires c = search left
 
-pub slice_bounds-copy_from_slice-end-in-32 : goal.slice_bounds-copy_from_slice-end-in-32
-slice_bounds-copy_from_slice-end-in-32 c = search left
+pub copy_part-requires-in-48 : goal.copy_part-requires-in-48
+copy_part-requires-in-48 c = search left
 
-pub slice_bounds-copy_from_slice-end-in-48 : goal.slice_bounds-copy_from_slice-end-in-48
-slice_bounds-copy_from_slice-end-in-48 c = search left
-
-pub slice_bounds-copy_from_slice-end-in-48-2 : goal.slice_bounds-copy_from_slice-end-in-48-2
-slice_bounds-copy_from_slice-end-in-48-2 c = search left
-
-pub slice_bounds-copy_from_slice-end-in-236 : goal.slice_bounds-copy_from_slice-end-in-236
-slice_bounds-copy_from_slice-end-in-236 c = search left
+pub copy_part-requires-in-236 : goal.copy_part-requires-in-236
+copy_part-requires-in-236 c = search left
 
 pub returns-in-32 : goal.returns-in-32
 returns-in-32 c = search left

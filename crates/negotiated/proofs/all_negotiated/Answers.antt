@@ -12,7 +12,7 @@ pub returns : goal.returns
 unfolding negotiated_all
 returns c =
     let holds = λ (n : ℕ). negotiated_holds (phy_in (tables_of c.args.tables.now) n) in
-    let numbers = YieldsList-from_range 0 c.phy_count.result c.phy_count.result refl (omega arith) in
-    all_from_yields_List holds _ _ _ c.all.ensures.ran numbers (λ n b q k. search rules)
+    all_from_yields_List holds _ _ _ c.all.ensures.ran
+    (YieldsList-from_range 0 _ c.phy_count.result refl (omega (arith, c.requires.few_phys, c.phy_count.ensures))) (λ n b q k. search rules)
     ∙ all_range holds c.phy_count.result
     ∙ rw c.phy_count.ensures refl
