@@ -18,7 +18,8 @@ pub fn pinouts_hold(connectors: &[u8; SIZE], p: usize) -> bool
     ensures { result ≡ pinouts_hold (connectors_of connectors.now) p }
 {
     let (connectors, _) = connectors.as_chunks::<CONNECTOR_SIZE>();
-    connectors.iter().take(p).all(pinout_holds)
+    // a slice of p: `take` would count beside it, for each connector at each request
+    connectors[..p].iter().all(pinout_holds)
 }
 
 fn pinout_holds(connector: &[u8; CONNECTOR_SIZE]) -> bool

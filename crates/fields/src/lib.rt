@@ -91,14 +91,15 @@ fn spinup_allowed(phy: Phy) -> bool
 }
 
 /// The field rules of phy n among p, but for the negotiated rate's. One group is tested behind the
-/// other, which is quicker for a sound phy than one test of all.
+/// other, which is quicker for a sound phy than one test of all, and byte 101 before the rates,
+/// which is quicker than behind them.
 #[tactic(auto, unfolding(crate::specs::Rules::fields_hold))]
 pub fn fields_hold(phy: Phy, n: PhyIdentifier, p: u8) -> bool
     ensures { result ≡ fields_hold phy n p }
 {
     identify_holds(phy, n, p)
-        && rates_hold(phy)
         && phy.fixed <= 1
+        && rates_hold(phy)
         && attached_holds(phy)
         && spinup_allowed(phy)
 }

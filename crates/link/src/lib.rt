@@ -4,7 +4,7 @@
 
 ghost use Rattle.std.specs.Prelude.{◌≡◌};
 ghost use Rattle.phy.specs.Entity.{programmed_minimum, programmed_maximum};
-ghost use Rattle.link.specs.Rule.{in_both, plain_rule, rule_of, reset, disabled, negotiated_holds};
+ghost use Rattle.link.specs.Rule.{in_both, plain_rule, waiting_rate, rule_of, reset, disabled, negotiated_holds};
 
 use phy::Phy;
 
@@ -34,16 +34,28 @@ fn plain_rule(phy: Phy) -> u8
     codes::LINK_RATE_FAILED
 }
 
-/// The rate that a link reset gives. A device that waits for its spin-up has no rate yet.
-#[tactic(auto, unfolding(crate::specs::Rule::rule_of, crate::specs::Rule::waiting_rate))]
-pub fn rule(phy: Phy) -> u8
-    ensures { result ≡ rule_of phy }
+// A device that waits for its spin-up has no rate yet.
+#[tactic(auto, using(laws::specs::Choice::picks), unfolding(crate::specs::Rule::waiting_rate))]
+fn waiting_rate(rate: u8) -> u8
+    ensures { result ≡ waiting_rate rate }
 {
-    let rate = plain_rule(phy);
-    if phy.spinup_hold == 1 && rates::is_rate(rate) {
+    if rates::is_rate(rate) {
         return codes::SATA_SPINUP_HOLD;
     }
     rate
+}
+
+/// The rate that a link reset gives.
+// Each branch has a call of its own: the rate of a phy that is not held at spin-up, as most are, is
+// then not tested for being one. A request asks the rule of each phy.
+#[tactic(auto, unfolding(crate::specs::Rule::rule_of))]
+pub fn rule(phy: Phy) -> u8
+    ensures { result ≡ rule_of phy }
+{
+    if phy.spinup_hold == 1 {
+        return waiting_rate(plain_rule(phy));
+    }
+    plain_rule(phy)
 }
 
 /// The phy after a link reset. A link that failed is counted.
